@@ -1,0 +1,4 @@
+-- The definitions that the contracts of `kernel` cite.
+pub mod Walks
+pub mod Cap
+pub mod Kernel
