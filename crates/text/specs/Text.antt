@@ -1,0 +1,108 @@
+-- Document 01, 'The card': the lines that `count` prints, as lists of ASCII bytes. Each line ends with one LF.
+use mathlib.Core.Bool.{Bool, true, false, cond, _&&_}
+use mathlib.Core.List.{List, [], _∷_, _++_}
+use Prim.Native.Nat.{ℕ, zero, suc, _+_, _/_, _%_}
+use lib.Dec.{ltb}
+use lib.ListN.{length, take, drop}
+use lib.Ieee.{Float, binary64, rem, le, eq, ofBits, toBits, toUnsigned}
+use Rattle.float.specs.Float.{f64zero, f64one}
+use Rattle.raster.specs.declared.CellTallies.{CellTallies}
+
+-- ---- a number in decimal
+
+-- n by its digits, b saying whether n has one digit only; `most` is enough steps
+abbrev pub decimalBy : ℕ → Bool → ℕ → List ℕ
+decimalBy zero b n = (48 + n) ∷ []
+decimalBy (suc most) true n = (48 + n) ∷ []
+decimalBy (suc most) false n = decimalBy most (ltb (n / 10) 10) (n / 10) ++ ((48 + n % 10) ∷ [])
+
+-- `0` to `9`, the most significant digit first and never a `0` in front of another
+unfoldable pub decimal : ℕ → List ℕ
+decimal n = decimalBy n (ltb n 10) n
+
+-- ---- bits as 16 upper-case hex digits
+
+-- `0` to `9`, `A` to `F`
+abbrev pub hexDigit : ℕ → ℕ
+hexDigit d = cond (ltb d 10) (48 + d) (55 + d)
+
+-- the last k hex digits of n
+abbrev pub hexDigits : ℕ → ℕ → List ℕ
+hexDigits zero n = []
+hexDigits (suc k) n = hexDigits k (n / 16) ++ (hexDigit (n % 16) ∷ [])
+
+-- ---- words
+
+abbrev pub space : List ℕ
+space = 32 ∷ []
+
+abbrev pub newline : List ℕ
+newline = 10 ∷ []
+
+-- `rows `
+abbrev pub rowsWord : List ℕ
+rowsWord = 114 ∷ 111 ∷ 119 ∷ 115 ∷ 32 ∷ []
+
+-- `cells `
+abbrev pub cellsWord : List ℕ
+cellsWord = 99 ∷ 101 ∷ 108 ∷ 108 ∷ 115 ∷ 32 ∷ []
+
+-- `total `
+abbrev pub totalWord : List ℕ
+totalWord = 116 ∷ 111 ∷ 116 ∷ 97 ∷ 108 ∷ 32 ∷ []
+
+-- `circle `
+abbrev pub circleWord : List ℕ
+circleWord = 99 ∷ 105 ∷ 114 ∷ 99 ∷ 108 ∷ 101 ∷ 32 ∷ []
+
+-- `refused `
+abbrev pub refusedWord : List ℕ
+refusedWord = 114 ∷ 101 ∷ 102 ∷ 117 ∷ 115 ∷ 101 ∷ 100 ∷ 32 ∷ []
+
+-- `bits `
+abbrev pub bitsWord : List ℕ
+bitsWord = 98 ∷ 105 ∷ 116 ∷ 115 ∷ 32 ∷ []
+
+-- ---- lines
+
+-- 9007199254740992.0, 2 ^ 53
+abbrev pub f64p53 : Float
+f64p53 = ofBits binary64 0x4340_0000_0000_0000
+
+-- whole in 0 to 2 ^ 53: the remainder by 1 is 0
+unfoldable pub isCount : Float → Bool
+isCount x = le f64zero x && le x f64p53 && eq (rem binary64 x f64one) f64zero
+
+-- a count that is whole in 0 to 2 ^ 53 in decimal, every other as `bits`, a space and 16 upper-case hex digits
+unfoldable pub shown : Float → List ℕ
+unfolding decimal isCount
+shown x = cond (isCount x) (decimal (toUnsigned 64 x)) (bitsWord ++ hexDigits 16 (toBits binary64 x))
+
+-- `refused n`
+unfoldable pub refusedLine : ℕ → List ℕ
+refusedLine n = refusedWord ++ decimal n ++ newline
+
+-- `rows` and the source height
+unfoldable pub rowsLine : ℕ → List ℕ
+rowsLine height = rowsWord ++ decimal height ++ newline
+
+-- `cells` and the tallies in record order
+unfoldable pub cellsLine : CellTallies → List ℕ
+cellsLine t =
+    cellsWord ++ decimal (t .nodata) ++ space ++ decimal (t .negative) ++ space ++ decimal (t .zero) ++ space ++ decimal (t .populated) ++ newline
+
+-- `total` and the total
+unfoldable pub totalLine : Float → List ℕ
+totalLine total = totalWord ++ shown total ++ newline
+
+-- `circle`, its index, and the people or `refused n`
+unfoldable pub circleLine : ℕ → Float → List ℕ
+circleLine i people = circleWord ++ decimal i ++ space ++ shown people ++ newline
+
+unfoldable pub circleRefusedLine : ℕ → ℕ → List ℕ
+circleRefusedLine i n = circleWord ++ decimal i ++ space ++ refusedLine n
+
+-- ---- a text written over the front of a lent buffer: what does not fit is dropped, and what lies behind it keeps its values
+
+unfoldable pub writtenOver : List ℕ → List ℕ → List ℕ
+writtenOver text out = take (length out) (text ++ drop (length text) out)
