@@ -1,0 +1,31 @@
+-- `replay::run` meets its contract. The invariant: the buffers keep their lengths. The measure is the budget.
+-- Assumes nothing.
+use mathlib.Core.Path.{_≡_}
+use lib.ListN.{length}
+use borrow.Author.Needs.{needs}
+use Rattle.replay.proofs.run.Statement.{statement}
+use Rattle.replay.proofs.run.Tie as tie
+
+abbrev Inv-loop : tie.InvT-loop
+Inv-loop input₀ output₀ row₀ place₀ budget₀ input output row place budget = (length input ≡ length input₀) × (length output ≡ length output₀) × (length row ≡ length row₀)
+
+abbrev μ-loop : tie.MeasureT-loop
+μ-loop input₀ output₀ row₀ place₀ budget₀ input output row place budget = budget
+
+pub run-spec : {M : Type 1} → statement M
+run-spec =
+    tie.close
+    (tie.spec
+    Inv-loop
+    μ-loop
+    (λ c κs. search needs)
+    (λ c. search needs)
+    (λ c κs. search needs)
+    (λ c κs. search needs)
+    (λ c. search needs)
+    (λ c. search needs)
+    (λ c κs. search needs)
+    (λ c. search needs)
+    (λ c. search needs)
+    (λ c. search needs)
+    (λ c. search needs))

@@ -1,0 +1,13 @@
+-- `replay::words::flush` meets its contract.
+-- Assumes nothing.
+use mathlib.Core.Path.{sym}
+use lib.Seq.{length-take-le}
+use borrow.Author.Needs.{needs}
+use Rattle.replay.proofs.words.flush.Statement.{statement}
+use Rattle.replay.proofs.words.flush.Tie as tie
+
+slice-aggregate-write-all : tie.Need-slice-aggregate-write-all
+slice-aggregate-write-all c = sym (length-take-le _ _ (c .before .if1 .taken))
+
+pub flush-spec : {M : Type 1} → statement M
+flush-spec = tie.close (tie.spec slice-aggregate-write-all (λ c κs. search needs) (λ c. search needs) (λ c. search needs))

@@ -1,0 +1,49 @@
+// Arguments from words, and answers as words.
+use crate::words::Answer;
+use crate::words::Place;
+
+pub struct Arguments {
+    pub first: u64,
+    pub second: u64,
+    pub third: u64,
+    pub fourth: u64,
+    // Where the program stands after them.
+    pub place: Place,
+}
+
+pub fn one(word: u64) -> Answer {
+    Answer {
+        two: false,
+        first: word,
+        second: 0,
+    }
+}
+
+pub fn two(first: u64, second: u64) -> Answer {
+    Answer {
+        two: true,
+        first,
+        second,
+    }
+}
+
+pub fn number(x: f64) -> Answer {
+    one(float::to_bits(x))
+}
+
+pub fn flag(b: bool) -> Answer {
+    if b { one(1) } else { one(0) }
+}
+
+// A number that was not refused.
+pub fn accepted(x: f64) -> Answer {
+    two(0, float::to_bits(x))
+}
+
+pub fn refused(cause: u32) -> Answer {
+    one(cause as u64)
+}
+
+pub fn unknown() -> Answer {
+    one(0xffff_ffff_ffff_ffff)
+}

@@ -1,0 +1,156 @@
+// The calls by number, answered by the reference. README.md has the table.
+use crate::geodesy::{self, LatBand, LatLon, RadiusError, RadiusKm};
+use crate::words::Words;
+use crate::{grid, stand_ins, table};
+
+/// The longest row that call 12 takes.
+pub const LONGEST_ROW: u64 = 4096;
+
+/// The answer to a call whose number is not known.
+const UNKNOWN: u64 = u64::MAX;
+
+/// A bit pattern, with one pattern for every NaN.
+fn shown(x: f64) -> u64 {
+    if x.is_nan() {
+        0x7ff8_0000_0000_0000
+    } else {
+        x.to_bits()
+    }
+}
+
+/// The words of an answer.
+pub type Answer = Vec<u64>;
+
+fn one(word: u64) -> Answer {
+    vec![word]
+}
+
+fn two(first: u64, second: u64) -> Answer {
+    vec![first, second]
+}
+
+fn number(x: f64) -> Answer {
+    one(shown(x))
+}
+
+/// The call's arguments are taken from `words`. `None` where they end too early.
+pub fn answer<W: Words>(call: u64, words: &mut W) -> Option<Answer> {
+    match call {
+        0x01..=0x0c => float(call, words),
+        0x10..=0x12 => digest(call, words),
+        0x20..=0x2e => sphere(call, words),
+        _ => Some(one(UNKNOWN)),
+    }
+}
+
+fn float<W: Words>(call: u64, words: &mut W) -> Option<Answer> {
+    let bits = words.next()?;
+    let x = f64::from_bits(bits);
+    Some(match call {
+        0x01 => number(x.sqrt()),
+        0x02 => {
+            let (sum, dropped) = table::two_sum(x, words.float()?);
+            two(shown(sum), shown(dropped))
+        }
+        0x03 => number(x % words.float()?),
+        0x04 => number(stand_ins::rem_euclid(x, words.float()?)),
+        0x05 => number(f64::from(f32::from_bits(bits as u32))),
+        0x06 => one(u64::from(x.is_finite())),
+        0x07 => number(x.abs()),
+        0x08 => number(x.min(words.float()?)),
+        0x09 => number(x.max(words.float()?)),
+        0x0a => {
+            let (low, high) = (words.float()?, words.float()?);
+            number(clamp(x, low, high))
+        }
+        0x0b => match grid::index_from_offset(x, words.next()? as u32) {
+            Some(index) => two(1, u64::from(index)),
+            None => one(0),
+        },
+        _ => one(u64::from(x as u32)),
+    })
+}
+
+/// Rust's own panics at bounds that are out of order or NaN; `replay` takes any.
+fn clamp(x: f64, low: f64, high: f64) -> f64 {
+    if low <= high {
+        x.clamp(low, high)
+    } else if x < low {
+        low
+    } else if high < x {
+        high
+    } else {
+        x
+    }
+}
+
+fn digest<W: Words>(call: u64, words: &mut W) -> Option<Answer> {
+    let (first, second) = (words.next()?, words.next()?);
+    Some(one(match call {
+        0x10 => first.wrapping_mul(second),
+        0x11 => table::mix(first, second as u32),
+        _ if second > LONGEST_ROW => UNKNOWN,
+        _ => {
+            let mut digest = first;
+            for _ in 0..second {
+                digest = table::mix(digest, words.next()? as u32);
+            }
+            digest
+        }
+    }))
+}
+
+fn sphere<W: Words>(call: u64, words: &mut W) -> Option<Answer> {
+    let bits = words.next()?;
+    let x = f64::from_bits(bits);
+    Some(match call {
+        0x20 => number(stand_ins::sin(x)),
+        0x21 => number(stand_ins::cos(x)),
+        0x22 => number(stand_ins::atan2(x, words.float()?)),
+        0x23 => number(stand_ins::acos(x)),
+        0x24 => number(stand_ins::to_radians(x)),
+        0x25 => number(stand_ins::to_degrees(x)),
+        0x26 => number(geodesy::wrap_lon(x)),
+        0x27 | 0x28 => {
+            let from = LatLon { lat: x, lon: words.float()? };
+            let to = LatLon { lat: words.float()?, lon: words.float()? };
+            distance(call, from, to)
+        }
+        0x29 => number(geodesy::arc_km(x)),
+        0x2a => number(geodesy::central_angle_rad(x)),
+        0x2b => match RadiusKm::new(x) {
+            Ok(radius) => two(0, shown(radius.km())),
+            Err(RadiusError::NotFinite) => one(18),
+            Err(RadiusError::Negative) => one(19),
+        },
+        0x2c => number(RadiusKm::from(bits as u32).km()),
+        0x2d => {
+            let more = words.float()?;
+            match RadiusKm::new(x) {
+                Ok(radius) => two(0, shown(radius.widened_by(more).km())),
+                // No record that `new` gives.
+                Err(_) => one(22),
+            }
+        }
+        _ => {
+            let band = LatBand::new(x, words.float()?);
+            number(geodesy::zone_area_km2(band, words.float()?))
+        }
+    })
+}
+
+fn distance(call: u64, from: LatLon, to: LatLon) -> Answer {
+    let inside = (-91.0..=91.0).contains(&from.lat)
+        && (-91.0..=91.0).contains(&to.lat)
+        && (-181.0..=181.0).contains(&(to.lon - from.lon));
+    if !inside {
+        return one(24);
+    }
+    two(
+        0,
+        shown(match call {
+            0x27 => geodesy::angular_distance_rad(from, to),
+            _ => geodesy::great_circle_km(from, to),
+        }),
+    )
+}

@@ -1,0 +1,107 @@
+// The stored sample: every call at the limits, then some of a seed's list.
+use crate::calls::LONGEST_ROW;
+use crate::generate::{bits, call, numbers_of, HALVES, LIMITS, NANS};
+use crate::table::FNV_OFFSET_BASIS;
+use std::f64::consts::PI;
+
+pub fn calls() -> Vec<Vec<u64>> {
+    let mut floats: Vec<u64> = NANS.to_vec();
+    for x in LIMITS {
+        floats.extend([x.to_bits(), (-x).to_bits()]);
+    }
+    for x in [90.0f64, 91.0, 180.0, 181.0, PI, 1.0] {
+        floats.extend([x.to_bits() + 1, x.to_bits() - 1, (-x).to_bits() + 1, (-x).to_bits() - 1]);
+    }
+    let mut calls = Vec::new();
+    for number in [0x01, 0x06, 0x07, 0x0c, 0x20, 0x21, 0x23, 0x24, 0x25, 0x26, 0x29, 0x2a, 0x2b] {
+        calls.extend(floats.iter().map(|&x| vec![number, x]));
+    }
+    for number in [0x05, 0x2c] {
+        calls.extend(HALVES.iter().map(|&x| vec![number, x]));
+    }
+    calls.extend(pairs());
+    calls.extend(points());
+    for number in [0, 0xd, 0xf, 0x13, 0x1f, 0x2f, 0x30, u64::MAX] {
+        calls.push(vec![number]);
+    }
+    calls.push(vec![0x12, FNV_OFFSET_BASIS, 0]);
+    calls.push(vec![0x12, FNV_OFFSET_BASIS, LONGEST_ROW + 1]);
+    let numbers = numbers_of("all").unwrap_or_default();
+    calls.extend((0..600).map(|index| call(1, index, &numbers)));
+    calls
+}
+
+/// Calls of two or three floats, at the cases that document 01 and the reference name.
+fn pairs() -> Vec<Vec<u64>> {
+    let tiny = f64::from_bits(1);
+    let values = [
+        [9007199254740992.0, 1.0],
+        [1.0, 9007199254740992.0],
+        [5.0, -7.0],
+        [-0.0, 0.0],
+        [0.0, -0.0],
+        [f64::MAX, f64::MAX],
+        [f64::MAX, tiny],
+        [f64::MAX, 360.0],
+        [-1e-20, 4.0],
+        [-180.00000000000003, 360.0],
+        [540.0, 360.0],
+        [-540.0, -360.0],
+        [7.0, 0.0],
+        [f64::INFINITY, 360.0],
+        [f64::NEG_INFINITY, f64::INFINITY],
+        [5.0, f64::INFINITY],
+        [f64::NAN, 1.0],
+        [1.0, f64::NAN],
+        [tiny, tiny],
+        [-tiny, 1.0],
+        [1.0, 1.0],
+        [0.5, 1.0],
+        [1.0, 0.5],
+    ];
+    let mut calls = Vec::new();
+    for [x, y] in values {
+        for number in [0x02, 0x03, 0x04, 0x22, 0x2d] {
+            calls.push(vec![number, x.to_bits(), y.to_bits()]);
+        }
+        // Not where Rust leaves the answer open.
+        if !(x.is_nan() || y.is_nan() || x == 0.0 && y == 0.0) {
+            calls.extend([0x08, 0x09].map(|number| vec![number, x.to_bits(), y.to_bits()]));
+        }
+        for limit in [0, 1, 6, 0xffff_ffff] {
+            calls.push(vec![0x0b, x.to_bits(), limit]);
+        }
+        if !x.is_nan() {
+            calls.push(vec![0x0a, x.to_bits(), (-1.0f64).to_bits(), 1.0f64.to_bits()]);
+        }
+    }
+    calls
+}
+
+/// Distances at the ends of their domain, zones, products and word steps.
+fn points() -> Vec<Vec<u64>> {
+    let past = |x: f64| f64::from_bits(x.to_bits() + 1);
+    let mut calls = Vec::new();
+    for lat in [0.0, -0.0, 90.0, -90.0, 91.0, -91.0, past(91.0), past(-91.0), f64::NAN] {
+        for lon in [0.0, 180.0, -181.0, 181.0, past(181.0), past(-181.0), f64::INFINITY] {
+            for number in [0x27, 0x28] {
+                calls.push([vec![number], bits([lat, 0.0, 12.5, lon])].concat());
+                calls.push([vec![number], bits([-45.0, lon, lat, 0.0])].concat());
+            }
+        }
+        calls.push([vec![0x2e], bits([lat, 30.0, 0.25])].concat());
+        calls.push([vec![0x2e], bits([60.0, lat, 360.0])].concat());
+    }
+    // Opposite points, where the haversine can round to above 1, and one place from both sides of a pole.
+    for step in 0..30 {
+        let (lat, past) = (f64::from(step) * 3.0, f64::from(step) / 29.0);
+        calls.push([vec![0x27], bits([lat, 10.0, -lat, 190.0])].concat());
+        calls.push([vec![0x28], bits([90.0 + past, 0.0, 90.0 - past, 180.0])].concat());
+    }
+    for a in [0, 1, 0xffff_ffff, 1 << 32, 0x1_0000_0001, u64::MAX, FNV_OFFSET_BASIS] {
+        for b in [0, 0x100_0000_01b3, 0xffff_ffff, 1 << 32, u64::MAX] {
+            calls.extend([vec![0x10, a, b], vec![0x11, a, b]]);
+        }
+    }
+    calls
+}
