@@ -1,0 +1,3 @@
+-- The theorem that covers the table.
+mod Example
+pub mod Table

@@ -1,0 +1,121 @@
+-- Document 01, 'Bench cases': the [P] cases as a table. A case is what the definitions give and what the paper says, both as lists of numbers:
+-- floats as their bits, a refusal as its number, a kind of cell as its place in the record of tallies.
+use Prim.Native.Nat.{ℕ, zero, suc}
+use mathlib.Core.List.{List, [], _∷_, _++_, map}
+use lib.IntN.{negsuc}
+use lib.ListN.{replicate}
+use lib.Ieee.{Float, binary64, neg, ofBits, toBits}
+use Rattle.refusal.specs.Refusal.{Outcome, answered, refused}
+use Rattle.float.specs.Float.{f64zero, f64one}
+use Rattle.float.specs.TwoSum.{twoSum}
+use Rattle.raster.specs.declared.CellKind.{CellKind}
+use Rattle.raster.specs.declared.CellKind.the-variants.{Nodata, Negative, Zero, Populated}
+use Rattle.raster.specs.Raster.{kindOf}
+use Rattle.geodesy.specs.StandIns.{f64p180}
+use Rattle.geodesy.specs.Radius.{widenedBy}
+use Rattle.grid.specs.declared.Grid.{Grid}
+use Rattle.grid.specs.Grid.{f64p90, gridRefusal}
+use Rattle.grid.specs.Lookup.{colAlong}
+use Rattle.table.specs.declared.Builder.{Builder}
+use Rattle.table.specs.Place.{tableLength}
+use Rattle.table.specs.Decimation.{coarseGrid, factorRefusal}
+use Rattle.table.specs.Build.{Buffers, buffers, Built, startCall, rowCall}
+use Rattle.rectangle.specs.Rectangle.{rowBand, rectanglePopulation}
+use Rattle.rectangle.specs.declared.ColSpan.the-variants.{Through}
+
+pub record Case : Type 0 where
+  pub gives : List ℕ
+  pub says : List ℕ
+
+abbrev pub bitsOf : Float → ℕ
+bitsOf x = toBits binary64 x
+
+-- ---- document 01's own example: 4 by 2, origin 90, −180, steps 90, −90, nodata −9999, rows 1 2 3 4 / 5 −9999 −1 0
+
+abbrev pub exampleGrid : Grid
+exampleGrid = record { width = 4; height = 2; lat = f64p90; lon = neg f64p180; «lon_step» = f64p90; «lat_step» = neg f64p90 }
+
+-- −9999 as f32 bits
+abbrev pub mark : ℕ
+mark = 0xc61c_3c00
+
+abbrev pub firstRow : List ℕ
+firstRow = 0x3f80_0000 ∷ 0x4000_0000 ∷ 0x4040_0000 ∷ 0x4080_0000 ∷ []
+
+abbrev pub secondRow : List ℕ
+secondRow = 0x40a0_0000 ∷ mark ∷ 0xbf80_0000 ∷ 0 ∷ []
+
+-- the call that follows on another's builder and buffers
+abbrev pub nextOn : Outcome Builder → Buffers → List ℕ → Built
+nextOn (answered b) m row = rowCall b row m
+nextOn (refused n) m row = record { answer = refused n; buffers = m }
+
+abbrev pub next : List ℕ → Built → Built
+next row before = nextOn (before .answer) (before .buffers) row
+
+-- buffers of the example's lengths at a factor, all 1.0 before the start
+abbrev pub lentFor : ℕ → Buffers
+lentFor k =
+    buffers (replicate 5 f64one) (replicate 5 f64one) (replicate (suc (coarseGrid exampleGrid k .width)) f64one)
+    (replicate (tableLength (coarseGrid exampleGrid k .width) (coarseGrid exampleGrid k .height)) f64one)
+
+-- the example's table at a factor
+unfoldable pub exampleTable : ℕ → List Float
+exampleTable k = next secondRow (next firstRow (startCall exampleGrid k mark (lentFor k))) .buffers .table
+
+-- ---- answers as numbers
+
+abbrev pub kindNumber : CellKind → ℕ
+kindNumber Nodata = 0
+kindNumber Negative = 1
+kindNumber Zero = 2
+kindNumber Populated = 3
+
+-- 0 and the value, or the refusal
+abbrev pub outcomeBits : Outcome Float → List ℕ
+outcomeBits (answered x) = 0 ∷ bitsOf x ∷ []
+outcomeBits (refused n) = n ∷ []
+
+-- 1,048,576 columns of 1e-9 degrees, and one more
+abbrev pub wideGrid : ℕ → Grid
+wideGrid width =
+    record { width = width; height = 1; lat = f64p90; lon = f64zero; «lon_step» = ofBits binary64 0x3e11_2e0b_e826_d695; «lat_step» = neg f64one }
+
+abbrev pub table : List Case
+table =
+    -- two_sum(2^53, 1) = (2^53, 1)
+    record {
+      gives = bitsOf (twoSum (ofBits binary64 0x4340_0000_0000_0000) f64one .sum) ∷ bitsOf (twoSum (ofBits binary64 0x4340_0000_0000_0000) f64one .dropped) ∷ [];
+      says = 0x4340_0000_0000_0000 ∷ 0x3ff0_0000_0000_0000 ∷ [];
+    }
+    -- the example's table: 0 0 0 0 0 / 0 1 3 6 10 / 0 6 8 11 15
+    ∷ record {
+      gives = map bitsOf (exampleTable 1);
+      says =
+          0 ∷ 0 ∷ 0 ∷ 0 ∷ 0
+          ∷ 0 ∷ 0x3ff0_0000_0000_0000 ∷ 0x4008_0000_0000_0000 ∷ 0x4018_0000_0000_0000 ∷ 0x4024_0000_0000_0000
+          ∷ 0 ∷ 0x4018_0000_0000_0000 ∷ 0x4020_0000_0000_0000 ∷ 0x4026_0000_0000_0000 ∷ 0x402e_0000_0000_0000 ∷ [];
+    }
+    -- its factor 2: 0 0 0 / 0 8 15
+    ∷ record { gives = map bitsOf (exampleTable 2); says = 0 ∷ 0 ∷ 0 ∷ 0 ∷ 0x4020_0000_0000_0000 ∷ 0x402e_0000_0000_0000 ∷ [] }
+    -- factor 0 or 3 there: 10
+    ∷ record { gives = factorRefusal exampleGrid 0 ∷ factorRefusal exampleGrid 3 ∷ []; says = 10 ∷ 10 ∷ [] }
+    -- row 0, west 3, east 0: 5
+    ∷ record {
+      gives = outcomeBits (rectanglePopulation exampleGrid (exampleTable 1) (rowBand 0 0) (Through (record { 0 = 3 }) (record { 0 = 0 })));
+      says = 0 ∷ 0x4014_0000_0000_0000 ∷ [];
+    }
+    -- width 4, column 1, offset −5: 0
+    ∷ record { gives = colAlong 4 1 (negsuc 4) ∷ []; says = 0 ∷ [] }
+    -- −0.0 with that nodata: zero
+    ∷ record { gives = kindNumber (kindOf mark 0x8000_0000) ∷ []; says = 2 ∷ [] }
+    -- nodata 0.0, cell 0.0: nodata
+    ∷ record { gives = kindNumber (kindOf 0 0) ∷ []; says = 0 ∷ [] }
+    -- radius 5 widened by −7: 5
+    ∷ record {
+      gives = outcomeBits (widenedBy (record { 0 = ofBits binary64 0x4014_0000_0000_0000 }) (neg (ofBits binary64 0x401c_0000_0000_0000)));
+      says = 0 ∷ 0x4014_0000_0000_0000 ∷ [];
+    }
+    -- limit 1,048,576 passes 2, one more doesn't
+    ∷ record { gives = gridRefusal (wideGrid 1048576) ∷ gridRefusal (wideGrid 1048577) ∷ []; says = 0 ∷ 2 ∷ [] }
+    ∷ []
