@@ -1,0 +1,188 @@
+// Cards, good and damaged. Each depends on the seed and its own number alone.
+use crate::make_card::laid_out;
+
+/// splitmix64.
+struct Random(u64);
+
+impl Random {
+    fn word(&mut self) -> u64 {
+        self.0 = self.0.wrapping_add(0x9e37_79b9_7f4a_7c15);
+        let mut z = self.0;
+        z = (z ^ z >> 30).wrapping_mul(0xbf58_476d_1ce4_e5b9);
+        z = (z ^ z >> 27).wrapping_mul(0x94d0_49bb_1331_11eb);
+        z ^ z >> 31
+    }
+
+    /// Below `n`.
+    fn below(&mut self, n: u64) -> u64 {
+        self.word() % n
+    }
+
+    fn of<T: Copy>(&mut self, list: &[T]) -> T {
+        list[self.below(list.len() as u64) as usize]
+    }
+
+    fn one_in(&mut self, n: u64) -> bool {
+        self.below(n) == 0
+    }
+}
+
+const NODATA: [u32; 7] = [0xc61c_3c00, 0, 0x8000_0000, 0x7fc0_0000, 0x7fc0_0001, 0xff7f_ffff, 0x3f80_0000];
+
+fn cell(r: &mut Random, nodata: u32, kind: u64) -> u32 {
+    match (kind, r.below(40)) {
+        (_, 0) => nodata,
+        (_, 1) => r.of(&[0, 0x8000_0000, 0x7fc0_0000, 0x7fc0_0001, 0xffc0_0000, 1, 0x8000_0001, 0xbf80_0000]),
+        (0, _) | (1, _) => (r.below(2000) as f32).to_bits(),
+        (2, _) => ((r.below(100_000) as f32) / 64.0).to_bits(),
+        (3, _) => (r.below(1 << 40) as f32).to_bits(),
+        (4, 2) => 0x7f80_0000,
+        (4, _) => r.word() as u32,
+        _ => ((r.below(1 << 24) as f32) * 1024.0).to_bits(),
+    }
+}
+
+fn radius(r: &mut Random) -> f64 {
+    match r.below(16) {
+        0 => r.of(&[0.0, -0.0, -1.0, f64::NAN, f64::INFINITY, f64::NEG_INFINITY, 1e-320, f64::MAX, -1e-300]),
+        1 => r.of(&[20015.0, 20015.5, 20016.0, 10007.557, 20037.5]),
+        2 => f64::from_bits(r.word()),
+        3..=5 => r.below(20_016) as f64,
+        6..=9 => r.below(2_000) as f64,
+        _ => r.below(5_000_000) as f64 / 1000.0,
+    }
+}
+
+/// A card that most of the checks pass.
+fn good(r: &mut Random) -> Vec<u8> {
+    let factor = r.of(&[1, 1, 1, 2, 2, 3, 4, 5, 6]);
+    let small = |r: &mut Random, most: u64| (r.below(most) + 1) as u32 * factor;
+    let (mut width, mut height) = (small(r, 12), small(r, 8));
+    if r.one_in(12) {
+        (width, height) = (small(r, 600 / u64::from(factor)), r.below(10) as u32 * factor + factor);
+    }
+    let closes = !r.one_in(8);
+    let mut lon_step = if closes { 360.0 / f64::from(width) } else { 300.0 / f64::from(width) };
+    if r.one_in(4) {
+        lon_step = -lon_step;
+    }
+    let lat = if r.one_in(2) { 90.0 } else { 90.0 - r.below(60) as f64 };
+    let lat_step = -((lat + 90.0) / f64::from(height)) * r.of(&[1.0, 1.0, 0.5, 0.9]);
+    let lon = r.of(&[-180.0, -180.0, 0.0, 179.99, 540.0, -180.00000000000003, 12.5]);
+    let nodata = r.of(&NODATA);
+    let kind = r.below(6);
+    let rows: Vec<u8> =
+        (0..width * height).flat_map(|_| cell(r, nodata, kind).to_le_bytes()).collect();
+    let mut circles = Vec::new();
+    for _ in 0..r.below(9) {
+        let place = |r: &mut Random, n: u32| {
+            let past = u64::from(r.one_in(9));
+            r.below(u64::from(n / factor) + past) as u32
+        };
+        let (row, col) = (place(r, height), place(r, width));
+        circles.extend(row.to_le_bytes());
+        circles.extend(col.to_le_bytes());
+        circles.extend(radius(r).to_le_bytes());
+    }
+    laid_out([width, height], [lat, lon, lon_step, lat_step], nodata, factor, &rows, &circles)
+}
+
+const WORDS: [u32; 12] = [0, 1, 2, 3, 7, 64, 90, 4095, 4096, 1_048_576, 1_048_577, u32::MAX];
+
+#[rustfmt::skip]
+const FLOATS: [f64; 20] = [
+    0.0, -0.0, 1.0, -1.0, 45.0, 90.0, -90.0, 90.00000000000001, -90.00000000000001, 180.0, -180.0,
+    -180.00000000000003, 360.0, 1e-9, -1e-9, 5e-324, f64::MAX, f64::NAN, f64::INFINITY, f64::NEG_INFINITY,
+];
+
+fn put(card: &mut [u8], at: usize, bytes: &[u8]) {
+    if let Some(place) = card.get_mut(at..at + bytes.len()) {
+        place.copy_from_slice(bytes);
+    }
+}
+
+/// One damage: a field at a limit, a length, a byte, or sections that overlap or stand at the end.
+fn damage(r: &mut Random, card: &mut Vec<u8>) {
+    let length = card.len() as u32;
+    match r.below(8) {
+        0 => {
+            let at = r.of(&[0, 4, 40, 44, 48, 52, 56, 60]);
+            let value = r.of(&WORDS);
+            put(card, at, &value.to_le_bytes());
+        }
+        1 => {
+            let at = r.of(&[8, 16, 24, 32]);
+            let value = r.of(&FLOATS);
+            put(card, at, &value.to_le_bytes());
+        }
+        2 => {
+            let to = r.of(&[0, 1, 59, 60, 63, 64, length.saturating_sub(1), length / 2]) as usize;
+            card.truncate(to);
+        }
+        3 => {
+            let at = r.below(u64::from(length.max(1))) as usize;
+            let value = r.word() as u8;
+            put(card, at, &[value]);
+        }
+        4 => {
+            let at = r.of(&[48, 56]);
+            let near = length.wrapping_sub(r.of(&[0, 1, 4, 16, 32])).wrapping_add(r.of(&[0, 1]));
+            put(card, at, &near.to_le_bytes());
+        }
+        5 => {
+            put(card, 52, &0u32.to_le_bytes());
+            let near = length.wrapping_add(r.of(&[0, 1]));
+            put(card, 56, &near.to_le_bytes());
+        }
+        6 => card.resize(r.of(&[65_535, 65_536, 65_537, 70_000]), 0),
+        _ => {
+            let at = r.of(&[0, 4, 44]);
+            let value = r.below(30) as u32;
+            put(card, at, &value.to_le_bytes());
+        }
+    }
+}
+
+/// Bytes of any length, the word at 60 zero or not.
+fn random_bytes(r: &mut Random) -> Vec<u8> {
+    let length = r.below(70_001) as usize;
+    let mut card: Vec<u8> = (0..length.div_ceil(8)).flat_map(|_| r.word().to_le_bytes()).collect();
+    card.truncate(length);
+    if r.one_in(2) {
+        put(&mut card, 60, &[0; 4]);
+    }
+    card
+}
+
+/// The dearest card: 4,095 columns, one row, and every circle that fits.
+fn worst(r: &mut Random) -> Vec<u8> {
+    let rows: Vec<u8> = (0..4095).flat_map(|_| (r.below(2000) as f32).to_bits().to_le_bytes()).collect();
+    let count = (65_536 - 64 - rows.len()) / 16;
+    let mut circles = Vec::new();
+    for _ in 0..count {
+        circles.extend(0u32.to_le_bytes());
+        circles.extend((r.below(4095) as u32).to_le_bytes());
+        circles.extend((r.below(20_016) as f64).to_le_bytes());
+    }
+    let lon_step = 360.0 / 4095.0;
+    laid_out([4095, 1], [60.0, -180.0, lon_step, -1.0], 0xc61c_3c00, 1, &rows, &circles)
+}
+
+/// A card of a kind: `good`, `damaged`, `random`, `worst`, or a mixture.
+pub fn card(seed: u64, number: u64, kind: &str) -> Vec<u8> {
+    let mut r = Random(seed.wrapping_mul(0x2545_f491_4f6c_dd1d) ^ number.wrapping_mul(0x9e37_79b9_7f4a_7c15));
+    r.word();
+    match kind {
+        "good" => good(&mut r),
+        "random" => random_bytes(&mut r),
+        "worst" => worst(&mut r),
+        _ => {
+            let mut card = good(&mut r);
+            let damages = if kind == "damaged" { 1 + r.below(3) } else { r.below(3) };
+            for _ in 0..damages {
+                damage(&mut r, &mut card);
+            }
+            card
+        }
+    }
+}
