@@ -2,3 +2,4 @@
 pub mod Words
 pub mod Card
 pub mod Printed
+pub mod Steps

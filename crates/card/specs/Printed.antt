@@ -1,6 +1,6 @@
 -- Document 01, 'The card': what `count` prints of a card, to the last byte.
-use mathlib.Core.List.{List, [], _∷_, _++_}
-use mathlib.Core.Bool.{Bool, not}
+use mathlib.Core.List.{List, [], _++_}
+use mathlib.Core.Bool.{not}
 use Prim.Native.Nat.{ℕ, zero, suc}
 use lib.Dec.{leb}
 use lib.ListN.{replicate}

@@ -1,0 +1,134 @@
+// The card's header and its checks, in their order.
+ghost use mathlib.Core.Path.{_≡_};
+ghost use Prim.Native.Nat.{_+_, _<_, _≤_};
+ghost use lib.ListN.{length};
+ghost use Rattle.grid.specs.Grid.{gridOutcome, gridNew};
+ghost use Rattle.card.specs.Card.{gridAt, headerAt, inside, sectionsInside, tableTooLarge, headerOutcome, readHeader};
+ghost use Rattle.card.specs.Steps.{withHeader, withGrid};
+use crate::Header;
+use crate::HeaderAnswer;
+use crate::words::f64_at;
+use crate::words::u32_at;
+use geodesy::LatLon;
+use grid::Grid;
+use grid::GridAnswer;
+use refusal::first;
+use table::Decimation;
+use table::DecimationAnswer;
+
+// The most bytes of a card, and the most cells of its source table.
+const MOST_BYTES: usize = 65536;
+
+const MOST_CELLS: u32 = 8192;
+
+fn grid_at(card: &[u8]) -> GridAnswer
+    requires { ⌜ 64 ≤ length (now card) ⌝ }
+    ensures { λ r. ⌜ gridOutcome r ≡ gridNew (gridAt (now (card .entry))) ⌝ }
+{
+    let width = u32_at(card, 0);
+    let height = u32_at(card, 4);
+    let lat = f64_at(card, 8);
+    let lon = f64_at(card, 16);
+    let lon_step = f64_at(card, 24);
+    let lat_step = f64_at(card, 32);
+    Grid::new(width, height, LatLon { lat, lon }, lon_step, lat_step)
+}
+
+fn header_at(card: &[u8], d: Decimation) -> Header
+    requires { ⌜ 64 ≤ length (now card) ⌝ }
+    ensures { λ r. ⌜ r ≡ headerAt (now (card .entry)) d ⌝ }
+{
+    let nodata = u32_at(card, 40);
+    let rows_at = u32_at(card, 48);
+    let circles = u32_at(card, 52);
+    let circles_at = u32_at(card, 56);
+    Header {
+        decimation: d,
+        nodata,
+        rows_at,
+        circles,
+        circles_at,
+    }
+}
+
+fn is_table_too_large(g: Grid) -> bool
+    ensures { λ r. ⌜ r ≡ tableTooLarge g ⌝ }
+{
+    if MOST_CELLS < g.width {
+        return true;
+    }
+    if MOST_CELLS < g.height {
+        return true;
+    }
+    MOST_CELLS < (g.height + 1) * (g.width + 1)
+}
+
+// A section may end at the card's end.
+fn is_inside(card: &[u8], offset: u32, len: u64) -> bool
+    requires { ⌜ len < 2305843009213693952 ⌝ }
+    ensures { λ r. ⌜ r ≡ inside (now (card .entry)) offset len ⌝ }
+{
+    (offset as u64) + len <= card.len() as u64
+}
+
+fn has_sections_inside(card: &[u8], h: Header) -> bool
+    requires { ⌜ length (now card) ≤ 65536 ⌝ }
+    ensures { λ r. ⌜ r ≡ sectionsInside (now (card .entry)) h ⌝ }
+{
+    let d = h.decimation;
+    let source = d.source;
+    let cells = (source.width as u64) * (source.height as u64);
+    if cells > MOST_BYTES as u64 {
+        return false;
+    }
+    let rows = is_inside(card, h.rows_at, 4 * cells);
+    let circles = is_inside(card, h.circles_at, 16 * (h.circles as u64));
+    rows & circles
+}
+
+// 27 (table), 25 (sections).
+fn with_header(card: &[u8], h: Header) -> HeaderAnswer
+    requires { ⌜ length (now card) ≤ 65536 ⌝ }
+    ensures { λ r. ⌜ headerOutcome r ≡ withHeader (now (card .entry)) (h .decimation .source) h ⌝ }
+{
+    let d = h.decimation;
+    let large = is_table_too_large(d.source);
+    let ends = !has_sections_inside(card, h);
+    let sections = first(ends, refusal::CARD_ENDS_EARLY, refusal::PASSED);
+    let n = first(large, refusal::CARD_TOO_LARGE, sections);
+    if n != refusal::PASSED {
+        return HeaderAnswer::Refused(n);
+    }
+    HeaderAnswer::Accepted(h)
+}
+
+// 10 with the coarse grid's own 1 to 9, then the rest.
+fn with_grid(card: &[u8], g: Grid) -> HeaderAnswer
+    requires { ⌜ (64 ≤ length (now card)) × (length (now card) ≤ 65536) ⌝ }
+    ensures { λ r. ⌜ headerOutcome r ≡ withGrid (now (card .entry)) g ⌝ }
+{
+    let made = Decimation::new(g, u32_at(card, 44));
+    match made {
+        DecimationAnswer::Made(d) => with_header(card, header_at(card, d)),
+        DecimationAnswer::Refused(n) => HeaderAnswer::Refused(n),
+    }
+}
+
+pub fn read_header(card: &[u8]) -> HeaderAnswer
+    ensures { λ r. ⌜ headerOutcome r ≡ readHeader (now (card .entry)) ⌝ }
+{
+    if MOST_BYTES < card.len() {
+        return HeaderAnswer::Refused(refusal::CARD_TOO_LARGE);
+    }
+    if card.len() < 64 {
+        return HeaderAnswer::Refused(refusal::CARD_ENDS_EARLY);
+    }
+    if u32_at(card, 60) != 0 {
+        return HeaderAnswer::Refused(refusal::CARD_WORD_NOT_ZERO);
+    }
+    let made = grid_at(card);
+    match made {
+        GridAnswer::Made(g) => with_grid(card, g),
+        GridAnswer::Refused(n) => HeaderAnswer::Refused(n),
+    }
+}

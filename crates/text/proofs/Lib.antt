@@ -1,0 +1,6 @@
+-- Laws that belong to no one function, and worked examples.
+mod Counts
+mod Digits
+pub mod Laying
+pub mod Written
+pub mod Examples

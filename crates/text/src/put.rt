@@ -1,0 +1,144 @@
+// Parts of a line, laid over a slice from an offset on. What lies past the slice's end is dropped; the answer is the offset
+// behind the part all the same.
+ghost use mathlib.Core.Path.{_≡_};
+ghost use mathlib.Core.Bool.{true};
+ghost use mathlib.Core.List.{[], _∷_, _++_};
+ghost use Prim.Native.Nat.{_+_, _<_, _≤_};
+ghost use lib.ListN.{length};
+ghost use lib.Ieee.{toUnsigned};
+ghost use Rattle.text.specs.Text.{decimal, hexDigit, hexDigits, isCount, shown, space, newline, bitsWord, circleWord, refusedLine};
+ghost use Rattle.text.specs.Laid.{Laid};
+
+pub(crate) const SPACE: u8 = 32;
+
+pub(crate) const NEWLINE: u8 = 10;
+
+fn put_byte(out: &mut [u8], at: usize, b: u8) -> usize
+    requires { ⌜ at < 4096 ⌝ }
+    ensures { λ r. ⌜ Laid (now (out .entry)) at (b ∷ []) (now (out .exit)) r ⌝ }
+{
+    if at < out.len() {
+        out[at] = b;
+        return at + 1;
+    }
+    at + 1
+}
+
+pub(crate) fn put_bytes(out: &mut [u8], at: usize, text: &[u8]) -> usize
+    requires { ⌜ (at < 2048) × (length (now text) ≤ 64) ⌝ }
+    ensures { λ r. ⌜ Laid (now (out .entry)) at (now (text .entry)) (now (out .exit)) r ⌝ }
+{
+    let mut next = at;
+    let mut i = 0;
+    while i < text.len() {
+        next = put_byte(out, next, text[i]);
+        i += 1;
+    }
+    next
+}
+
+fn digit(d: u64) -> u8
+    requires { ⌜ d < 10 ⌝ }
+    ensures { λ r. ⌜ r ≡ 48 + d ⌝ }
+{
+    48 + d as u8
+}
+
+fn hex_digit(d: u64) -> u8
+    requires { ⌜ d < 16 ⌝ }
+    ensures { λ r. ⌜ r ≡ hexDigit d ⌝ }
+{
+    if d < 10 { 48 + d as u8 } else { 55 + d as u8 }
+}
+
+// The most significant digit first, and never a `0` in front of another.
+fn put_decimal(out: &mut [u8], at: usize, n: u64) -> usize
+    requires { ⌜ at < 2048 ⌝ }
+    ensures { λ r. ⌜ Laid (now (out .entry)) at (decimal n) (now (out .exit)) r ⌝ }
+    ensures { λ _. ⌜ length (decimal n) ≤ 20 ⌝ }
+{
+    if n < 10 {
+        return put_byte(out, at, digit(n));
+    }
+    let next = put_decimal(out, at, n / 10);
+    put_byte(out, next, digit(n % 10))
+}
+
+// The last k hex digits.
+fn put_hex(out: &mut [u8], at: usize, k: usize, n: u64) -> usize
+    requires { ⌜ (at < 2048) × (k ≤ 16) ⌝ }
+    ensures { λ r. ⌜ Laid (now (out .entry)) at (hexDigits k n) (now (out .exit)) r ⌝ }
+{
+    if k == 0 {
+        return at;
+    }
+    let next = put_hex(out, at, k - 1, n / 16);
+    put_byte(out, next, hex_digit(n % 16))
+}
+
+// A number and a byte after it.
+pub(crate) fn put_number(out: &mut [u8], at: usize, n: u64, after: u8) -> usize
+    requires { ⌜ at < 1024 ⌝ }
+    ensures { λ r. ⌜ Laid (now (out .entry)) at (decimal n ++ (after ∷ [])) (now (out .exit)) r ⌝ }
+    ensures { λ r. ⌜ r ≤ at + 21 ⌝ }
+{
+    let a = put_decimal(out, at, n);
+    put_byte(out, a, after)
+}
+
+// Whole in 0 to 2^53.
+fn is_count(x: f64) -> bool
+    ensures { λ r. ⌜ r ≡ isCount x ⌝ }
+{
+    (0.0 <= x) & (x <= 9007199254740992.0) & (float::rem(x, 1.0) == 0.0)
+}
+
+// A count as a whole number.
+fn whole(x: f64) -> u64
+    requires { ⌜ isCount x ≡ true ⌝ }
+    ensures { λ r. ⌜ r ≡ toUnsigned 64 x ⌝ }
+{
+    std::num::truncating_f64_to_u64(x)
+}
+
+// `bits` and 16 hex digits, and a newline.
+fn put_bits(out: &mut [u8], at: usize, n: u64) -> usize
+    requires { ⌜ at < 512 ⌝ }
+    ensures { λ r. ⌜ Laid (now (out .entry)) at ((bitsWord ++ hexDigits 16 n) ++ newline) (now (out .exit)) r ⌝ }
+    ensures { λ r. ⌜ r ≤ at + 22 ⌝ }
+{
+    let a = put_bytes(out, at, b"bits ");
+    let b = put_hex(out, a, 16, n);
+    put_byte(out, b, NEWLINE)
+}
+
+// A count in decimal, every other number by its bits; and a newline.
+pub(crate) fn put_shown(out: &mut [u8], at: usize, x: f64) -> usize
+    requires { ⌜ at < 512 ⌝ }
+    ensures { λ r. ⌜ Laid (now (out .entry)) at (shown x ++ newline) (now (out .exit)) r ⌝ }
+    ensures { λ r. ⌜ r ≤ at + 22 ⌝ }
+{
+    if is_count(x) {
+        return put_number(out, at, whole(x), NEWLINE);
+    }
+    put_bits(out, at, float::to_bits(x))
+}
+
+// `refused n` and a newline.
+pub(crate) fn put_refused(out: &mut [u8], at: usize, n: u32) -> usize
+    requires { ⌜ at < 512 ⌝ }
+    ensures { λ r. ⌜ Laid (now (out .entry)) at (refusedLine n) (now (out .exit)) r ⌝ }
+    ensures { λ r. ⌜ r ≤ at + 29 ⌝ }
+{
+    let a = put_bytes(out, at, b"refused ");
+    put_number(out, a, n as u64, NEWLINE)
+}
+
+// `circle`, the index and a space, at the front.
+pub(crate) fn put_circle(out: &mut [u8], i: u32) -> usize
+    ensures { λ r. ⌜ Laid (now (out .entry)) 0 (circleWord ++ decimal i ++ space) (now (out .exit)) r ⌝ }
+    ensures { λ r. ⌜ r ≤ 28 ⌝ }
+{
+    let a = put_bytes(out, 0, b"circle ");
+    put_number(out, a, i as u64, SPACE)
+}
