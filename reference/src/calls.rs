@@ -1,16 +1,17 @@
 // The calls by number, answered by the reference. README.md has the table.
 use crate::geodesy::{self, LatBand, LatLon, RadiusError, RadiusKm};
+use crate::refusals::Refusal;
 use crate::words::Words;
-use crate::{grid, stand_ins, table};
+use crate::{circle_calls, grid, grid_calls, stand_ins, table, table_calls};
 
-/// The longest row that call 12 takes.
-pub const LONGEST_ROW: u64 = 4096;
+/// The longest list that a call takes.
+pub const LONGEST: u64 = 8192;
 
 /// The answer to a call whose number is not known.
-const UNKNOWN: u64 = u64::MAX;
+pub const UNKNOWN: u64 = u64::MAX;
 
 /// A bit pattern, with one pattern for every NaN.
-fn shown(x: f64) -> u64 {
+pub fn shown(x: f64) -> u64 {
     if x.is_nan() {
         0x7ff8_0000_0000_0000
     } else {
@@ -21,16 +22,34 @@ fn shown(x: f64) -> u64 {
 /// The words of an answer.
 pub type Answer = Vec<u64>;
 
-fn one(word: u64) -> Answer {
+pub fn one(word: u64) -> Answer {
     vec![word]
 }
 
-fn two(first: u64, second: u64) -> Answer {
+pub fn two(first: u64, second: u64) -> Answer {
     vec![first, second]
 }
 
-fn number(x: f64) -> Answer {
+pub fn number(x: f64) -> Answer {
     one(shown(x))
+}
+
+/// 0 and the words of what was given, or the refusal's number.
+pub fn given<T>(answer: Result<T, Refusal>, words: impl FnOnce(T) -> Answer) -> Answer {
+    match answer {
+        Ok(value) => [one(0), words(value)].concat(),
+        Err(number) => one(number),
+    }
+}
+
+/// A list's length and its elements. The inner `None` is a list that is too long, of which no element is taken.
+pub fn list<W: Words>(words: &mut W) -> Option<Option<Vec<u64>>> {
+    let length = words.next()?;
+    if length > LONGEST {
+        return Some(None);
+    }
+    let elements: Option<Vec<u64>> = (0..length).map(|_| words.next()).collect();
+    elements.map(Some)
 }
 
 /// The call's arguments are taken from `words`. `None` where they end too early.
@@ -39,6 +58,12 @@ pub fn answer<W: Words>(call: u64, words: &mut W) -> Option<Answer> {
         0x01..=0x0c => float(call, words),
         0x10..=0x12 => digest(call, words),
         0x20..=0x2e => sphere(call, words),
+        0x30..=0x3c => grid_calls::answer(call, words),
+        0x40 => table_calls::sanitise(words),
+        0x50 => table_calls::build(words),
+        0x60..=0x62 => table_calls::rectangle(call, words),
+        0x70 => circle_calls::kernel(words),
+        0x80 => circle_calls::circle(words),
         _ => Some(one(UNKNOWN)),
     }
 }
@@ -89,7 +114,7 @@ fn digest<W: Words>(call: u64, words: &mut W) -> Option<Answer> {
     Some(one(match call {
         0x10 => first.wrapping_mul(second),
         0x11 => table::mix(first, second as u32),
-        _ if second > LONGEST_ROW => UNKNOWN,
+        _ if second > LONGEST => UNKNOWN,
         _ => {
             let mut digest = first;
             for _ in 0..second {

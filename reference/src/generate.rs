@@ -1,7 +1,8 @@
 // Lists of calls. Each call depends on the seed and its own number alone, so that a long list can be made in parts.
-use crate::calls::LONGEST_ROW;
+use crate::calls::LONGEST;
 use crate::table::FNV_OFFSET_BASIS;
 use std::f64::consts::PI;
+use std::ops::RangeInclusive;
 
 /// The floats where rules change. Their negatives and their neighbours are drawn too.
 #[rustfmt::skip]
@@ -24,10 +25,10 @@ pub const HALVES: [u64; 18] = [
 ];
 
 /// splitmix64.
-struct Random(u64);
+pub struct Random(u64);
 
 impl Random {
-    fn word(&mut self) -> u64 {
+    pub fn word(&mut self) -> u64 {
         self.0 = self.0.wrapping_add(0x9e37_79b9_7f4a_7c15);
         let mut z = self.0;
         z = (z ^ z >> 30).wrapping_mul(0xbf58_476d_1ce4_e5b9);
@@ -36,20 +37,20 @@ impl Random {
     }
 
     /// Below `n`.
-    fn below(&mut self, n: u64) -> u64 {
+    pub fn below(&mut self, n: u64) -> u64 {
         self.word() % n
     }
 
-    fn of(&mut self, floats: &[f64]) -> f64 {
+    pub fn of(&mut self, floats: &[f64]) -> f64 {
         floats[self.below(floats.len() as u64) as usize]
     }
 
     /// From `low` to `high`.
-    fn between(&mut self, low: f64, high: f64) -> f64 {
+    pub fn between(&mut self, low: f64, high: f64) -> f64 {
         low + (high - low) * ((self.word() >> 11) as f64 / 9007199254740992.0)
     }
 
-    fn either_sign(&mut self, x: f64) -> f64 {
+    pub fn either_sign(&mut self, x: f64) -> f64 {
         if self.below(2) == 0 {
             x
         } else {
@@ -58,12 +59,12 @@ impl Random {
     }
 
     /// x, or a float at most two patterns away.
-    fn near(&mut self, x: f64) -> f64 {
+    pub fn near(&mut self, x: f64) -> f64 {
         f64::from_bits(x.to_bits().wrapping_add(self.below(5)).wrapping_sub(2))
     }
 
     /// A limit, or a neighbour of one, of either sign.
-    fn limit(&mut self) -> f64 {
+    pub fn limit(&mut self) -> f64 {
         let x = self.of(&LIMITS);
         let x = self.either_sign(x);
         if self.below(2) == 0 {
@@ -74,14 +75,14 @@ impl Random {
     }
 
     /// A whole number, or one and a half, or a few binary digits more.
-    fn short(&mut self) -> f64 {
+    pub fn short(&mut self) -> f64 {
         let size = 1 << (1 + self.below(24));
         let x = self.below(size) as f64 / [1.0, 1.0, 2.0, 8.0, 1024.0][self.below(5) as usize];
         self.either_sign(x)
     }
 
     /// Any float.
-    fn float(&mut self) -> f64 {
+    pub fn float(&mut self) -> f64 {
         match self.below(16) {
             0..=4 => f64::from_bits(self.word()),
             5 => f64::from_bits(NANS[self.below(4) as usize]),
@@ -95,7 +96,7 @@ impl Random {
     }
 
     /// A float that is a number.
-    fn number(&mut self) -> f64 {
+    pub fn number(&mut self) -> f64 {
         let x = self.float();
         if x.is_nan() {
             1.0
@@ -104,7 +105,7 @@ impl Random {
         }
     }
 
-    fn latitude(&mut self) -> f64 {
+    pub fn latitude(&mut self) -> f64 {
         match self.below(16) {
             0..=9 => self.between(-90.0, 90.0),
             10 => self.between(-91.0, 91.0),
@@ -118,7 +119,7 @@ impl Random {
         }
     }
 
-    fn longitude(&mut self) -> f64 {
+    pub fn longitude(&mut self) -> f64 {
         match self.below(16) {
             0..=9 => self.between(-180.0, 180.0),
             10 => self.between(-540.0, 540.0),
@@ -133,7 +134,7 @@ impl Random {
     }
 
     /// For the root: squares, the squares of middles between neighbours, and what lies beside both.
-    fn square(&mut self) -> f64 {
+    pub fn square(&mut self) -> f64 {
         let scale = f64::from_bits((511 + self.below(1022)) << 52);
         let root = match self.below(3) {
             0 => self.below(1 << 26) as f64,
@@ -147,7 +148,7 @@ impl Random {
     }
 
     /// For the remainder: a float and a modulus with any gap of exponents, also multiples and their neighbours.
-    fn remainder(&mut self) -> [f64; 2] {
+    pub fn remainder(&mut self) -> [f64; 2] {
         let m = match self.below(8) {
             0..=3 => self.float(),
             4 => 360.0,
@@ -170,7 +171,7 @@ impl Random {
     }
 
     /// For the sum: any two, two of near exponents, and a tie of the rounding.
-    fn addends(&mut self) -> [f64; 2] {
+    pub fn addends(&mut self) -> [f64; 2] {
         let a = self.float();
         let b = match self.below(4) {
             0 => self.float(),
@@ -197,7 +198,7 @@ impl Random {
     }
 
     /// Two numbers that are not zeros of both signs, for which Rust leaves the smaller and the larger open.
-    fn two_numbers(&mut self) -> [f64; 2] {
+    pub fn two_numbers(&mut self) -> [f64; 2] {
         let x = self.number();
         let y = if self.below(4) == 0 { self.near(x) } else { self.number() };
         let y = if y.is_nan() { 1.0 } else { y };
@@ -208,7 +209,7 @@ impl Random {
         }
     }
 
-    fn clamped(&mut self) -> [f64; 3] {
+    pub fn clamped(&mut self) -> [f64; 3] {
         let [a, b] = self.two_numbers();
         let (low, high) = if a <= b { (a, b) } else { (b, a) };
         let x = match self.below(4) {
@@ -222,7 +223,7 @@ impl Random {
     }
 
     /// A position and a limit, above which any 32 bits may stand.
-    fn offset(&mut self) -> [u64; 2] {
+    pub fn offset(&mut self) -> [u64; 2] {
         let limit = match self.below(4) {
             0 => HALVES[self.below(18) as usize],
             1 => self.below(100),
@@ -242,7 +243,7 @@ impl Random {
     }
 
     /// 32 bits, above which any others may stand.
-    fn half(&mut self) -> u64 {
+    pub fn half(&mut self) -> u64 {
         match self.below(4) {
             0 => HALVES[self.below(18) as usize],
             1 => self.word(),
@@ -250,7 +251,7 @@ impl Random {
         }
     }
 
-    fn factor(&mut self) -> u64 {
+    pub fn factor(&mut self) -> u64 {
         match self.below(4) {
             0 => [0, 1, 2, 3, 0xffff_ffff, 1 << 32, 1 << 63, u64::MAX][self.below(8) as usize],
             1 => self.word() >> self.below(64),
@@ -259,10 +260,10 @@ impl Random {
     }
 
     /// A digest, a length and that many cells; seldom a long row.
-    fn row(&mut self) -> Vec<u64> {
+    pub fn row(&mut self) -> Vec<u64> {
         let digest = if self.below(2) == 0 { FNV_OFFSET_BASIS } else { self.word() };
         let length = match self.below(256) {
-            0 => LONGEST_ROW - self.below(2),
+            0 => LONGEST - self.below(2),
             1 => self.below(1000),
             _ => self.below(16),
         };
@@ -271,7 +272,7 @@ impl Random {
         words
     }
 
-    fn points(&mut self) -> [f64; 4] {
+    pub fn points(&mut self) -> [f64; 4] {
         let (lat, lon) = (self.latitude(), self.longitude());
         match self.below(8) {
             // Two points that are near, that are the same, and that lie opposite.
@@ -295,7 +296,7 @@ impl Random {
     }
 
     /// A radius, and what it is widened by.
-    fn widening(&mut self) -> [f64; 2] {
+    pub fn widening(&mut self) -> [f64; 2] {
         match self.below(8) {
             0 => [self.either_sign(0.0), self.either_sign(0.0)],
             1 => {
@@ -306,7 +307,7 @@ impl Random {
         }
     }
 
-    fn radius(&mut self) -> f64 {
+    pub fn radius(&mut self) -> f64 {
         match self.below(4) {
             0 => self.float(),
             1 => self.limit().abs(),
@@ -316,7 +317,7 @@ impl Random {
     }
 
     /// For atan2: two legs of a triangle, and whatever else.
-    fn legs(&mut self) -> [f64; 2] {
+    pub fn legs(&mut self) -> [f64; 2] {
         match self.below(4) {
             0 => [self.float(), self.float()],
             1 => [self.number().abs(), self.number().abs()],
@@ -331,7 +332,7 @@ impl Random {
         }
     }
 
-    fn angle(&mut self) -> f64 {
+    pub fn angle(&mut self) -> f64 {
         match self.below(4) {
             0 => self.float(),
             1 => {
@@ -347,16 +348,27 @@ pub fn bits<const N: usize>(floats: [f64; N]) -> Vec<u64> {
     floats.iter().map(|x| x.to_bits()).collect()
 }
 
+/// The modules and the numbers of their calls.
+pub const MODULES: [(&str, RangeInclusive<u64>); 9] = [
+    ("float", 0x01..=0x0c),
+    ("digest", 0x10..=0x12),
+    ("geodesy", 0x20..=0x2e),
+    ("grid", 0x30..=0x3c),
+    ("raster", 0x40..=0x40),
+    ("build", 0x50..=0x50),
+    ("rectangle", 0x60..=0x62),
+    ("kernel", 0x70..=0x70),
+    ("circle", 0x80..=0x80),
+];
+
 /// The numbers of a module's calls.
 pub fn numbers_of(module: &str) -> Option<Vec<u64>> {
-    let (float, digest, geodesy) = (0x01..=0x0c, 0x10..=0x12, 0x20..=0x2e);
-    match module {
-        "float" => Some(float.collect()),
-        "digest" => Some(digest.collect()),
-        "geodesy" => Some(geodesy.collect()),
-        "all" => Some(float.chain(digest).chain(geodesy).collect()),
-        _ => None,
-    }
+    let numbers: Vec<u64> = MODULES
+        .into_iter()
+        .filter(|(name, _)| module == "all" || module == *name)
+        .flat_map(|(_, numbers)| numbers)
+        .collect();
+    Some(numbers).filter(|numbers| !numbers.is_empty())
 }
 
 /// Call `index` of a seed's list, of one of the numbers given.
@@ -387,6 +399,13 @@ fn call_of(number: u64, random: &mut Random) -> Vec<u64> {
         0x27 | 0x28 => bits(random.points()),
         0x2d => bits(random.widening()),
         0x2e => bits([random.latitude(), random.latitude(), random.longitude()]),
+        0x30..=0x3c => random.grid_call(number),
+        0x40 => random.raster_row(),
+        0x50 => random.build(),
+        0x60 => random.rectangles(),
+        0x61 | 0x62 => random.window(number),
+        0x70 => random.kernel(),
+        0x80 => random.circles(),
         _ => bits([random.float()]),
     });
     words

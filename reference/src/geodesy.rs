@@ -1,7 +1,7 @@
 // MIT licence (NOTICE). From turboBasic/PopulationCircles2026 at 29312e2fd7, crates/popcircles/src/geodesy.rs.
 // Cut: thiserror and the error texts, the doc tests, the tests, `#[must_use]`.
 // Put in: the stand-ins for sin, cos, atan2, to_radians and powi, `rem_euclid` written out, and the sign of zero in
-// `widened_by`. The band's two readers wait for the grid.
+// `widened_by`.
 use crate::stand_ins::{atan2, cos, rem_euclid, sin, squared, to_radians};
 
 // The earth model, stated once for the whole program: a sphere of the IUGG mean radius, with
@@ -158,12 +158,10 @@ impl LatBand {
         Self { north, south }
     }
 
-    #[allow(dead_code)]
     pub const fn north(self) -> f64 {
         self.north
     }
 
-    #[allow(dead_code)]
     pub const fn south(self) -> f64 {
         self.south
     }

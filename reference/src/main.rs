@@ -1,11 +1,20 @@
 // The reference's driver: writes lists of calls and answers them. README.md has the commands.
 mod calls;
+mod circle;
+mod circle_calls;
 mod generate;
+mod generate_grids;
+mod generate_tables;
 mod geodesy;
 mod grid;
+mod grid_calls;
+mod kernel;
+mod raster;
+mod refusals;
 mod sample;
 mod stand_ins;
 mod table;
+mod table_calls;
 mod words;
 
 use std::env;
@@ -21,7 +30,7 @@ fn main() -> ExitCode {
         ["sample"] => sample(),
         ["generate", seed, from, count] => generate(seed, from, count, "all"),
         ["generate", seed, from, count, module] => generate(seed, from, count, module),
-        _ => Err(io::Error::other("answer | sample | generate SEED FROM COUNT [float|digest|geodesy]")),
+        _ => Err(io::Error::other("answer | sample | generate SEED FROM COUNT [MODULE]")),
     };
     match done {
         Ok(()) => ExitCode::SUCCESS,

@@ -1,5 +1,5 @@
 // The stored sample: every call at the limits, then some of a seed's list.
-use crate::calls::LONGEST_ROW;
+use crate::calls::LONGEST;
 use crate::generate::{bits, call, numbers_of, HALVES, LIMITS, NANS};
 use crate::table::FNV_OFFSET_BASIS;
 use std::f64::consts::PI;
@@ -21,13 +21,87 @@ pub fn calls() -> Vec<Vec<u64>> {
     }
     calls.extend(pairs());
     calls.extend(points());
-    for number in [0, 0xd, 0xf, 0x13, 0x1f, 0x2f, 0x30, u64::MAX] {
+    for number in [0, 0xd, 0xf, 0x13, 0x1f, 0x2f, 0x3d, 0x41, 0x51, 0x63, 0x71, 0x81, u64::MAX] {
         calls.push(vec![number]);
     }
     calls.push(vec![0x12, FNV_OFFSET_BASIS, 0]);
-    calls.push(vec![0x12, FNV_OFFSET_BASIS, LONGEST_ROW + 1]);
-    let numbers = numbers_of("all").unwrap_or_default();
-    calls.extend((0..600).map(|index| call(1, index, &numbers)));
+    calls.push(vec![0x12, FNV_OFFSET_BASIS, LONGEST + 1]);
+    calls.extend(examples());
+    for (module, count, longest) in SEEDED {
+        let numbers = numbers_of(module).unwrap_or_default();
+        calls.extend(
+            (0..).map(|index| call(1, index, &numbers)).filter(|call| call.len() <= longest).take(count),
+        );
+    }
+    calls
+}
+
+/// How many calls of a seed's list, and the most words of one.
+const SEEDED: [(&str, usize, usize); 9] = [
+    ("float", 200, 60),
+    ("digest", 60, 60),
+    ("geodesy", 250, 60),
+    ("grid", 900, 60),
+    ("raster", 250, 24),
+    ("build", 80, 90),
+    ("rectangle", 150, 220),
+    ("kernel", 150, 60),
+    ("circle", 100, 100),
+];
+
+/// Document 01's own example, and the cases that it names.
+fn examples() -> Vec<Vec<u64>> {
+    let example =
+        |width: u64, lon: f64| [vec![width, 2], bits([90.0, lon, 360.0 / width as f64, -90.0])].concat();
+    let grid = example(4, -180.0);
+    let cell = |x: f32| u64::from(x.to_bits());
+    let rows = [[1.0, 2.0, 3.0, 4.0], [5.0, -9999.0, -1.0, 0.0]].map(|row| row.map(cell));
+    let nodata = cell(-9999.0);
+    let of = |number: u64, rest: &[u64]| [vec![number], grid.clone(), rest.to_vec()].concat();
+    let mut calls = vec![
+        of(0x30, &[]),
+        of(0x35, &[1, -5i64 as u64]),
+        of(0x36, &bits([-90.0, 0.0])),
+        [vec![0x36], example(4, 0.0), bits([0.0, -1e-20])].concat(),
+        of(0x61, &[]),
+        of(0x62, &bits([80.0, -80.0, -180.0, 180.0])),
+        of(0x62, &bits([80.0, -80.0, 170.0, -170.0])),
+        of(0x62, &bits([90.0, -90.0, -180.0, 180.0])),
+        vec![0x40, nodata, 5, nodata, cell(-0.0), cell(f32::INFINITY), cell(f32::NAN), cell(-1.0)],
+        vec![0x40, 0, 2, 0, cell(-0.0)],
+        vec![0x40, 0, 8193],
+    ];
+    for width in [0, 1, 1_048_576, 1_048_577] {
+        calls.push([vec![0x30, width, 1], bits([0.0, 0.0, 1e-5, -1.0])].concat());
+        calls.push([vec![0x30, 1, width], bits([0.0, 0.0, 1.0, -1e-5])].concat());
+    }
+    // Built at factors 1 and 2, with the calls that are refused on the way; 0 and 3 are refused.
+    for (factor, coarse, table) in [(1, 5, 15), (2, 3, 6), (0, 5, 15), (3, 5, 15)] {
+        let mut operations = vec![0, factor, nodata, 2, 1, 4];
+        operations.extend(rows[0]);
+        operations.extend([2, 1, 3, 0, 0, 0, 1, 4]);
+        operations.extend(rows[1]);
+        operations.extend([2, 1, 0, 2]);
+        let lent = [0x4008_0000_0000_0000, 5, 5, coarse, table, operations.len() as u64];
+        calls.push(of(0x50, &[lent.to_vec(), operations].concat()));
+    }
+    let table = [0, 0, 0, 0, 0, 0, 1, 3, 6, 10, 0, 6, 8, 11, 15].map(|x| f64::from(x).to_bits());
+    let questions =
+        [[0, 0, 0, 3, 0], [0, 1, 1, 0, 0], [0, 1, 0, 1, 2], [1, 0, 1, 0, 0], [0, 2, 1, 0, 0]].concat();
+    calls.push(of(0x60, &[vec![15], table.to_vec(), vec![25], questions].concat()));
+    for (row, column, km, widths) in [
+        (0, 0, 7000.0, vec![1]),
+        (0, 2, 1.0, vec![0]),
+        (1, 3, 0.0, vec![]),
+        (1, 3, -0.0, vec![]),
+        (0, 0, 20016.0, vec![2, 2]),
+        (2, 0, 5.0, vec![]),
+    ] {
+        calls.push(of(0x70, &[row, f64::to_bits(km), 2, 9]));
+        let count = widths.len() as u64;
+        let kernel = [grid.clone(), vec![row, f64::to_bits(km), row, count, count], widths].concat();
+        calls.push(of(0x80, &[vec![15], table.to_vec(), kernel, vec![2, column, 4]].concat()));
+    }
     calls
 }
 

@@ -1,6 +1,4 @@
 // Calls 10 to 12: `digest`.
-ghost use mathlib.Core.Path.{_≡_};
-ghost use lib.ListN.{length};
 use crate::answers;
 use crate::answers::Arguments;
 use crate::words;
@@ -9,12 +7,6 @@ use crate::words::Place;
 
 // The call that takes a row: a digest, the row's length, the row.
 pub const ROW: u64 = 0x12;
-
-pub fn buffer() -> [u32; 4096]
-    ensures { λ r. ⌜ 4096 ≡ length r ⌝ }
-{
-    [0; 4096]
-}
 
 pub fn arity(call: u64) -> u64 {
     match call {

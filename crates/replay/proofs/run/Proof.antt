@@ -7,10 +7,10 @@ use Rattle.replay.proofs.run.Statement.{statement}
 use Rattle.replay.proofs.run.Tie as tie
 
 abbrev Inv-loop : tie.InvT-loop
-Inv-loop input₀ output₀ row₀ place₀ budget₀ input output row place budget = (length input ≡ length input₀) × (length output ≡ length output₀) × (length row ≡ length row₀)
+Inv-loop input₀ output₀ list₀ state₀ row₀ acc₀ corr₀ coarse₀ table₀ place₀ budget₀ input output list state row acc corr coarse table place budget = (length input ≡ length input₀) × (length output ≡ length output₀) × (length list ≡ length list₀) × (length state ≡ length state₀) × (length row ≡ length row₀) × (length acc ≡ length acc₀) × (length corr ≡ length corr₀) × (length coarse ≡ length coarse₀) × (length table ≡ length table₀)
 
 abbrev μ-loop : tie.MeasureT-loop
-μ-loop input₀ output₀ row₀ place₀ budget₀ input output row place budget = budget
+μ-loop input₀ output₀ list₀ state₀ row₀ acc₀ corr₀ coarse₀ table₀ place₀ budget₀ input output list state row acc corr coarse table place budget = budget
 
 pub run-spec : {M : Type 1} → statement M
 run-spec =
@@ -25,6 +25,12 @@ run-spec =
     (λ c. search needs)
     (λ c. search needs)
     (λ c κs. search needs)
+    (λ c. search needs)
+    (λ c. search needs)
+    (λ c. search needs)
+    (λ c. search needs)
+    (λ c. search needs)
+    (λ c. search needs)
     (λ c. search needs)
     (λ c. search needs)
     (λ c. search needs)

@@ -1,0 +1,477 @@
+// Arguments of the calls on rows, builds, rectangles, kernels and circles.
+use crate::generate::{Random, HALVES};
+use crate::generate_grids::grid_words;
+use crate::geodesy::{great_circle_km, LatLon};
+use crate::grid::{Grid, Row};
+use crate::refusals::{self, KernelFields};
+use crate::table::{padded_len, Buffers, Decimation};
+
+/// What a raster's cells are drawn from.
+#[derive(Clone, Copy)]
+enum Cells {
+    Whole,
+    Large,
+    Fractions,
+    Mixed,
+    Any,
+}
+
+impl Random {
+    // ---- rows
+
+    fn nodata(&mut self) -> u64 {
+        match self.below(4) {
+            0 => HALVES[self.below(18) as usize],
+            1 => {
+                self.pick(&[0xc61c_3c00, 0xff7f_ffff, 0xff7f_fffd, 0x7fc0_0000, 0x7fc0_0001, 0, 0x8000_0000])
+            }
+            2 => self.word() >> 32,
+            _ => 0xc61c_3c00,
+        }
+    }
+
+    /// A cell's pattern.
+    fn cell(&mut self, cells: Cells, nodata: u64) -> u64 {
+        let bits = |x: f64| u64::from((x as f32).to_bits());
+        match cells {
+            Cells::Whole => bits(self.below(1000) as f64),
+            // Sums that come near 2^53 and go past it.
+            Cells::Large => match self.below(4) {
+                0 => bits(self.pick(&[
+                    9007199254740992.0,
+                    4503599627370496.0,
+                    9007198717870080.0,
+                    2251799813685248.0,
+                ])),
+                1 => bits(1.0 + self.below(4) as f64),
+                _ => bits((self.word() >> (11 + self.below(40))) as f64),
+            },
+            Cells::Fractions => bits(self.between(0.0, 1000.0)),
+            Cells::Mixed => match self.below(8) {
+                0 => nodata,
+                1 => bits(-self.between(0.0, 10.0)),
+                2 => 0,
+                3 => self.pick(&[0x8000_0000, 1, 0x7f80_0000]),
+                4 => bits(self.below(1 << 20) as f64),
+                _ => bits(self.between(0.0, 1e6)),
+            },
+            Cells::Any => match self.below(8) {
+                0 => nodata,
+                // One bit away from the mark, so that the NaNs beside it are tried.
+                1 => nodata ^ 1 << self.below(32),
+                2 => HALVES[self.below(18) as usize],
+                3 => 0x7f80_0000 | self.word() & 0x807f_ffff,
+                4 => self.word() & 0x807f_ffff,
+                5 => bits(self.short()),
+                _ => self.word() >> 32,
+            },
+        }
+    }
+
+    fn cells(&mut self) -> Cells {
+        self.pick(&[Cells::Whole, Cells::Large, Cells::Fractions, Cells::Mixed, Cells::Mixed, Cells::Any])
+    }
+
+    fn row_of(&mut self, cells: Cells, nodata: u64, length: u64) -> Vec<u64> {
+        (0..length).map(|_| self.cell(cells, nodata)).collect()
+    }
+
+    /// The mark, the row's length and its cells; seldom a long row.
+    pub fn raster_row(&mut self) -> Vec<u64> {
+        let nodata = self.nodata();
+        let length = match self.below(512) {
+            0 => 8192 - self.below(2),
+            1 => 8193,
+            2..=9 => self.below(600),
+            _ => self.below(24),
+        };
+        let mut words = vec![nodata, length];
+        if length <= 8192 {
+            words.extend(self.row_of(Cells::Any, nodata, length));
+        }
+        words
+    }
+
+    // ---- builds
+
+    /// A source grid and a factor, which most often divides both of its dimensions.
+    fn source(&mut self) -> (Grid, u64) {
+        let factor = if self.chance(3) { 1 } else { 1 + self.below(12) };
+        let (columns, rows) = (1 + self.below(40 / factor), 1 + self.below(24 / factor));
+        let mut size = [columns * factor, rows * factor];
+        if self.chance(8) {
+            size = [1 + self.below(40), 1 + self.below(24)];
+        }
+        let mut g = self.made_grid(size[0] as u32, size[1] as u32);
+        if self.chance(16) {
+            self.spoil(&mut g);
+        }
+        let factor = if self.chance(16) { self.pick(&[0, 2, 3, 0xffff_ffff, 1 << 32 | 1]) } else { factor };
+        (g, factor)
+    }
+
+    /// The first words of the lent buffers.
+    fn fill(&mut self) -> u64 {
+        match self.below(4) {
+            0 => self.pick(&[0, 0x3ff0_0000_0000_0000, 0x7ff0_0000_0000_0000 - 3, 0x7ff8_0000_0000_0000]),
+            _ => self.word(),
+        }
+    }
+
+    /// The lengths that a build asks, or others.
+    fn lengths(&mut self, g: &Grid, coarse: &Grid) -> [u64; 4] {
+        let wide = u64::from(g.width).min(4000) + 1;
+        let table = padded_len(coarse) as u64;
+        let mut lengths = [wide, wide, u64::from(coarse.width).min(4000) + 1, table.min(8192)];
+        if self.chance(12) {
+            let which = self.below(4) as usize;
+            lengths[which] = match self.below(4) {
+                0 => lengths[which] + 1,
+                1 => lengths[which] - 1,
+                2 => self.below(100),
+                _ => 0,
+            };
+        }
+        lengths
+    }
+
+    /// A field of the builder, and a word for it that its maker may not have put there.
+    fn forgery(&mut self, g: &Grid) -> Vec<u64> {
+        let field = self.below(21);
+        let mut other = *g;
+        self.spoil(&mut other);
+        let spoilt = grid_words(&other);
+        let word = match field {
+            0..=11 => match self.below(4) {
+                0 => spoilt[field as usize % 6],
+                1 => grid_words(g)[field as usize % 6] ^ 1 << 63,
+                2 => grid_words(g)[field as usize % 6] + 1,
+                _ => self.word(),
+            },
+            12 => self.below(13),
+            14 => self.below(u64::from(g.height) + 3),
+            16..=19 => match self.below(4) {
+                0 => u64::MAX - self.below(2),
+                1 => 1 << 63,
+                _ => self.below(u64::from(g.width) * 3 + 1),
+            },
+            _ => self.word(),
+        };
+        vec![3, field, word]
+    }
+
+    /// The same builder with other rows, which a maker could give: the tallies add up.
+    fn jump(&mut self, g: &Grid) -> Vec<u64> {
+        let rows = self.below(u64::from(g.height) + 1);
+        let cells = rows * u64::from(g.width);
+        let nodata = self.below(cells + 1);
+        [[3, 14, rows], [3, 16, nodata], [3, 17, cells - nodata], [3, 18, 0], [3, 19, 0]].concat()
+    }
+
+    /// One row call, with the length that is asked or another.
+    fn row_call(&mut self, g: &Grid, cells: Cells, nodata: u64) -> Vec<u64> {
+        let width = u64::from(g.width).min(300);
+        let length = if self.chance(16) {
+            self.pick(&[0, 1, width.saturating_sub(1), width + 1, 2 * width])
+        } else {
+            width
+        };
+        [vec![1, length], self.row_of(cells, nodata, length)].concat()
+    }
+
+    /// Operations: a start, the rows with other calls among them, a finish, and what comes after it.
+    pub fn build(&mut self) -> Vec<u64> {
+        let (g, factor) = self.source();
+        let made = Decimation::new(g, factor as u32).ok();
+        let coarse = made.map_or(g, |d| d.grid);
+        let mut words = grid_words(&g);
+        words.push(self.fill());
+        words.extend(self.lengths(&g, &coarse));
+        let (nodata, cells) = (self.nodata(), self.cells());
+        let restore: Vec<u64> = (0..12)
+            .flat_map(|field| {
+                let both = [grid_words(&g), grid_words(&coarse)].concat();
+                vec![3, field, both[field as usize]]
+            })
+            .collect();
+        let mut operations = if self.chance(32) { vec![] } else { vec![0, factor, nodata] };
+        let rows = u64::from(g.height).min(24);
+        for _ in 0..rows {
+            match self.below(48) {
+                0 => operations.push(2),
+                1 => {
+                    operations.extend(self.forgery(&g));
+                    operations.extend(self.row_call(&g, cells, nodata));
+                    operations.push(2);
+                    operations.extend(&restore);
+                    operations.extend([3, 12, factor]);
+                }
+                2 => operations.extend(self.jump(&g)),
+                3 => operations.extend([0, factor, nodata]),
+                4 => operations.push(4 + self.below(3)),
+                _ => {}
+            }
+            operations.extend(self.row_call(&g, cells, nodata));
+        }
+        for _ in 0..self.below(3) {
+            operations.extend(self.row_call(&g, cells, nodata));
+        }
+        for _ in 0..self.below(4) {
+            match self.below(6) {
+                0 => operations.extend(self.row_call(&g, cells, nodata)),
+                1 => operations.extend(self.jump(&g)),
+                2 => operations.extend(self.forgery(&g)),
+                _ => operations.push(2),
+            }
+        }
+        // Words that are not enough for an operation.
+        match self.below(32) {
+            0 => operations.extend([1, 5, 0]),
+            1 => operations.extend([1, u64::MAX]),
+            2 => operations.push(0),
+            _ => {}
+        }
+        operations.truncate(8192);
+        words.push(operations.len() as u64);
+        words.extend(operations);
+        words
+    }
+
+    // ---- tables and rectangles
+
+    /// A table over the grid: of a raster that was built, or of any floats.
+    fn table(&mut self, g: &Grid) -> Vec<u64> {
+        let length = padded_len(g);
+        let wide = g.width as usize + 1;
+        let mut table = vec![0.0; length];
+        if length > 8192 {
+            return vec![];
+        }
+        if self.chance(4) {
+            return (0..length).map(|_| self.float().to_bits()).collect();
+        }
+        let (mut acc, mut corr, mut coarse) = (vec![0.0; wide], vec![0.0; wide], vec![0.0; wide]);
+        let mut lent = Buffers { acc: &mut acc, corr: &mut corr, coarse: &mut coarse, table: &mut table };
+        let cells = if self.chance(6) { Cells::Any } else { self.cells() };
+        if let Ok(mut builder) = refusals::start(*g, 1, 0xc61c_3c00, &mut lent) {
+            for _ in 0..g.height {
+                let row = self.row_of(cells, 0xc61c_3c00, u64::from(g.width));
+                let mut row: Vec<f32> = row.into_iter().map(|bits| f32::from_bits(bits as u32)).collect();
+                refusals::build_row(&mut builder, &mut row, &mut lent).ok();
+            }
+        }
+        table.into_iter().map(f64::to_bits).collect()
+    }
+
+    /// The list with one element more or less, or none.
+    fn cut(&mut self, list: &mut Vec<u64>) {
+        match self.below(3) {
+            0 => list.push(0),
+            1 => drop(list.pop()),
+            _ => list.clear(),
+        }
+    }
+
+    /// Of a table that a list holds.
+    fn table_size(&mut self) -> (u32, u32) {
+        match self.below(16) {
+            0 => (1, self.size(4000)),
+            1 => (self.size(4000), 1),
+            2 => (self.size(2000), 1 + self.below(3) as u32),
+            _ => (1 + self.below(40) as u32, 1 + self.below(24) as u32),
+        }
+    }
+
+    fn mostly_below(&mut self, limit: u32) -> u64 {
+        if self.chance(8) {
+            self.index(limit)
+        } else {
+            self.below(u64::from(limit))
+        }
+    }
+
+    /// A grid, its table, and rectangles.
+    pub fn rectangles(&mut self) -> Vec<u64> {
+        let (width, height) = self.table_size();
+        let mut g = self.made_grid(width, height);
+        let mut cells = self.table(&g);
+        if self.chance(16) {
+            self.cut(&mut cells);
+        }
+        if self.chance(16) {
+            self.spoil(&mut g);
+        }
+        let mut questions = vec![];
+        for _ in 0..8 {
+            let [a, b] = [height, height].map(|limit| self.mostly_below(limit));
+            let [west, east] = [width, width].map(|limit| self.mostly_below(limit));
+            let (north, south) = if self.chance(12) { (a, b) } else { (a.min(b), a.max(b)) };
+            let kind = if self.chance(4) { 1 + self.below(2) } else { 0 };
+            let east = if self.chance(6) { west } else { east };
+            questions.extend([north, south, kind, west, east]);
+        }
+        if self.chance(64) {
+            questions.pop();
+        }
+        listed(grid_words(&g), &[&cells, &questions])
+    }
+
+    /// A grid, and in call 62 a window.
+    pub fn window(&mut self, call: u64) -> Vec<u64> {
+        let g = self.any_grid();
+        let mut words = grid_words(&g);
+        if call == 0x62 {
+            let (north, south) = (self.lat_on(&g), self.lat_on(&g));
+            let west = self.lon_on(&g);
+            let span = self.pick(&[360.0, 360.0 - 1e-9, 0.0, 720.0]);
+            let east = match self.below(4) {
+                0 => self.near(west + span),
+                1 => west + self.near(span),
+                _ => self.lon_on(&g),
+            };
+            words.extend([north, south, west, east].map(f64::to_bits));
+        }
+        words
+    }
+
+    // ---- kernels and circles
+
+    /// A grid that closes, most often.
+    fn turn_grid(&mut self, width: u32, height: u32) -> Grid {
+        let mut g = self.made_grid(width, height);
+        if !self.chance(16) {
+            g.lon_step = self.either_sign(360.0 / f64::from(width));
+            if self.chance(4) {
+                g.lon_step = self.near(g.lon_step);
+            }
+        }
+        g
+    }
+
+    /// The distance from the row's centre to some cell, or a length at a limit.
+    fn reach(&mut self, g: &Grid, row: u64) -> f64 {
+        let lat = |row: u64| g.origin.lat + (row as f64 + 0.5) * g.lat_step;
+        match self.below(12) {
+            0 => self.pick(&[0.0, -0.0, 1e-320, f64::from_bits(1), 1.5e-320, 1.6e-320, 1e-300, 1e-9]),
+            1 => self.pick(&[20015.0, 20016.0, 20015.114442035923, 1e6, 1e300, f64::MAX]),
+            2 => {
+                let half = 6371.0088 * std::f64::consts::PI;
+                self.near(half)
+            }
+            3..=6 => {
+                let other = self.below(u64::from(g.height).max(1));
+                let along = self.below(u64::from(g.width) / 2 + 1) as f64 * g.lon_step;
+                let from = LatLon { lat: lat(row), lon: 0.0 };
+                let km = great_circle_km(from, LatLon { lat: lat(other), lon: along });
+                self.near(km).abs()
+            }
+            7 => self.between(0.0, 200.0),
+            8 if self.chance(4) => self.float(),
+            _ => self.between(0.0, 20100.0),
+        }
+    }
+
+    /// A grid, a centre row and a radius, and the lent slice's length and first entries.
+    pub fn kernel(&mut self) -> Vec<u64> {
+        let (width, height) = match self.below(8) {
+            0 => (self.size(2000), self.size(400)),
+            1 => (1 + self.below(4) as u32, self.size(60)),
+            _ => (self.size(2000), self.size(40)),
+        };
+        let mut g = self.turn_grid(width, height);
+        let row = self.index(height);
+        let km = self.reach(&g, row);
+        if self.chance(24) {
+            self.spoil(&mut g);
+        }
+        let height = u64::from(height);
+        let length = match self.below(16) {
+            0 => height - 1,
+            1 => self.below(height + 1),
+            2..=4 => height + self.below(4),
+            _ => height,
+        };
+        [grid_words(&g), vec![row, km.to_bits(), length, self.half()]].concat()
+    }
+
+    /// Half-widths and a kernel's fields: of a kernel that is made, or any.
+    fn kernel_record(&mut self, g: &Grid) -> (KernelFields, Vec<u64>) {
+        let row = self.below(u64::from(g.height));
+        let km = self.reach(g, row);
+        let mut half_widths = vec![7; g.height as usize];
+        let centre = Row(row as u32);
+        if let Ok(kernel) = refusals::new_kernel(*g, centre, km, &mut half_widths) {
+            if !self.chance(4) {
+                let fields = KernelFields {
+                    grid: *g,
+                    centre: centre.0,
+                    km,
+                    north: kernel.north.0,
+                    count: kernel.count,
+                };
+                return (fields, half_widths.into_iter().map(u64::from).collect());
+            }
+        }
+        let north = self.below(u64::from(g.height) + 1);
+        let count = self.below(u64::from(g.height) - north + 1);
+        let closing = u64::from(g.width / 2);
+        let widths = (0..count).map(|_| self.below(closing + 1)).collect();
+        let centre = self.index(g.height) as u32;
+        (KernelFields { grid: *g, centre, km, north: north as u32, count: count as u32 }, widths)
+    }
+
+    /// One thing of a kernel becomes what its maker may not give.
+    fn spoil_kernel(&mut self, k: &mut KernelFields, half_widths: &mut Vec<u64>) {
+        let closing = u64::from(k.grid.width / 2);
+        match self.below(8) {
+            0 => k.north = k.north.wrapping_add(1),
+            1 => k.count = k.count.wrapping_add(1),
+            2 => k.count = self.word() as u32,
+            3 => self.cut(half_widths),
+            4 => self.spoil(&mut k.grid),
+            5 => k.km = self.float(),
+            6 => k.grid.lon_step = self.near(k.grid.lon_step),
+            _ => {
+                let entry = self.below(half_widths.len() as u64 + 1) as usize;
+                if let Some(h) = half_widths.get_mut(entry) {
+                    *h = if self.chance(2) { closing + 1 } else { self.word() };
+                }
+            }
+        }
+    }
+
+    /// A grid, its table, a kernel with its half-widths, and columns.
+    pub fn circles(&mut self) -> Vec<u64> {
+        let (width, height) = self.table_size();
+        let mut g = self.turn_grid(width, height);
+        if refusals::new_grid(g).is_err() {
+            g = self.made_grid(width, height);
+        }
+        let mut cells = self.table(&g);
+        let (mut kernel, mut half_widths) = self.kernel_record(&g);
+        if self.chance(8) {
+            self.spoil_kernel(&mut kernel, &mut half_widths);
+        }
+        if self.chance(16) {
+            self.cut(&mut cells);
+        }
+        if self.chance(24) {
+            self.spoil(&mut g);
+        }
+        half_widths.truncate(8192);
+        let columns: Vec<u64> = (0..16).map(|_| self.index(width)).collect();
+        let k =
+            [u64::from(kernel.centre), kernel.km.to_bits(), u64::from(kernel.north), u64::from(kernel.count)];
+        let words = listed(grid_words(&g), &[&cells]);
+        listed([words, grid_words(&kernel.grid), k.to_vec()].concat(), &[&half_widths, &columns])
+    }
+}
+
+/// The words, and after them each list with its length.
+fn listed(mut words: Vec<u64>, lists: &[&[u64]]) -> Vec<u64> {
+    for list in lists {
+        words.push(list.len() as u64);
+        words.extend(*list);
+    }
+    words
+}
