@@ -1,0 +1,28 @@
+-- `recount::print` meets its contract.
+-- Assumes nothing.
+use mathlib.Core.Path.{sym}
+use lib.Seq.{length-take-le}
+use borrow.Author.Needs.{needs}
+use Rattle.recount.proofs.print.Statement.{statement}
+use Rattle.recount.proofs.print.Tie as tie
+
+slice-aggregate-answer : tie.Need-slice-aggregate-answer
+slice-aggregate-answer c = sym (length-take-le _ _ (c .before .if1 .taken))
+
+slice-aggregate-write-all : tie.Need-slice-aggregate-write-all
+slice-aggregate-write-all c = sym (length-take-le _ _ (c .before .if2 .taken))
+
+pub print-spec : {M : Type 1} → statement M
+print-spec =
+    tie.close
+    (tie.spec
+    slice-aggregate-answer
+    (λ c κs. search needs)
+    (λ c. search needs)
+    slice-aggregate-write-all
+    (λ c κs. search needs)
+    (λ c. search needs)
+    (λ c. search needs)
+    (λ c. search needs)
+    (λ c. search needs)
+    (λ c. search needs))
