@@ -8,6 +8,7 @@ mod geodesy;
 mod grid;
 mod kernel;
 mod make_card;
+mod random;
 mod raster;
 mod refusals;
 mod stand_ins;

@@ -1,4 +1,5 @@
 // Lists of calls. Each call depends on the seed and its own number alone, so that a long list can be made in parts.
+pub use crate::random::Random;
 use crate::calls::LONGEST;
 use crate::table::FNV_OFFSET_BASIS;
 use std::f64::consts::PI;
@@ -24,23 +25,7 @@ pub const HALVES: [u64; 18] = [
     0x7f80_0001, 0x7fc0_0000, 0x7fff_ffff, 0x8000_0000, 0x8000_0001, 0xc61c_3c00, 0xff80_0000, 0xffc0_0000, 0xffff_ffff,
 ];
 
-/// splitmix64.
-pub struct Random(u64);
-
 impl Random {
-    pub fn word(&mut self) -> u64 {
-        self.0 = self.0.wrapping_add(0x9e37_79b9_7f4a_7c15);
-        let mut z = self.0;
-        z = (z ^ z >> 30).wrapping_mul(0xbf58_476d_1ce4_e5b9);
-        z = (z ^ z >> 27).wrapping_mul(0x94d0_49bb_1331_11eb);
-        z ^ z >> 31
-    }
-
-    /// Below `n`.
-    pub fn below(&mut self, n: u64) -> u64 {
-        self.word() % n
-    }
-
     pub fn of(&mut self, floats: &[f64]) -> f64 {
         floats[self.below(floats.len() as u64) as usize]
     }

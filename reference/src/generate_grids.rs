@@ -106,6 +106,15 @@ impl Random {
         Grid { width, height, origin: LatLon { lat: 45.0, lon: -180.0 }, lon_step, lat_step }
     }
 
+    /// Any float, and often one that is not finite.
+    fn odd(&mut self) -> f64 {
+        if self.chance(3) {
+            self.pick(&[f64::NAN, f64::INFINITY, f64::NEG_INFINITY])
+        } else {
+            self.float()
+        }
+    }
+
     /// A field becomes one at or past a limit, or anything.
     pub fn spoil(&mut self, g: &mut Grid) {
         match self.below(7) {
@@ -113,7 +122,7 @@ impl Random {
             1 => g.height = self.pick(&[0, 1, 1_048_576, 1_048_577, 0x8000_0000, 0xffff_ffff]),
             2 => {
                 let edge = self.either_sign(90.0);
-                g.origin.lat = if self.chance(2) { self.near(edge) } else { self.float() };
+                g.origin.lat = if self.chance(2) { self.near(edge) } else { self.odd() };
             }
             3 => {
                 let edge = self.pick(&[180.0, 360.0, 540.0]);
@@ -121,11 +130,11 @@ impl Random {
                 g.origin.lon = match self.below(4) {
                     0 => -180.00000000000003,
                     1 | 2 => self.near(edge),
-                    _ => self.float(),
+                    _ => self.odd(),
                 };
             }
-            4 => g.lon_step = if self.chance(2) { self.either_sign(0.0) } else { self.float() },
-            5 => g.lat_step = if self.chance(2) { self.either_sign(0.0) } else { self.float() },
+            4 => g.lon_step = if self.chance(2) { self.either_sign(0.0) } else { self.odd() },
+            5 => g.lat_step = if self.chance(2) { self.either_sign(0.0) } else { self.odd() },
             _ => g.lat_step = -g.lat_step,
         }
     }
@@ -171,7 +180,7 @@ impl Random {
         match self.below(8) {
             0..=2 => self.near(g.origin.lat + row * g.lat_step),
             3 => self.either_sign(90.0),
-            4 => self.float(),
+            4 => self.odd(),
             _ => g.origin.lat + self.between(0.0, f64::from(g.height)) * g.lat_step,
         }
     }
@@ -184,7 +193,7 @@ impl Random {
                 self.near(g.origin.lon + col * g.lon_step + turns)
             }
             3 => self.pick(&[-1e-20, 1e-20, -0.0, 0.0, 180.0, -180.0, 360.0]),
-            4 => self.float(),
+            4 => self.odd(),
             5 => self.longitude(),
             _ => g.origin.lon + self.between(0.0, f64::from(g.width)) * g.lon_step,
         }

@@ -9,6 +9,7 @@ mod geodesy;
 mod grid;
 mod grid_calls;
 mod kernel;
+mod random;
 mod raster;
 mod refusals;
 mod sample;
