@@ -1,24 +1,31 @@
-// Cards: answers one as the program `count` does, makes one from readable text, and compares many with the proved code.
+// Cards: answers one as the program `count` does, makes one from readable text and gives the text back, and compares many
+// with the proved code. reference/README.md has the commands.
 // The modules have calls that a card does not make.
 #![allow(dead_code)]
 
+mod card_text;
 mod circle;
+mod compare_cards;
 mod generate_cards;
 mod geodesy;
 mod grid;
 mod kernel;
 mod make_card;
+mod progress;
 mod random;
 mod raster;
 mod refusals;
 mod stand_ins;
 mod table;
 
+use generate_cards::Kind;
 use geodesy::{LatLon, RadiusError, RadiusKm};
 use grid::{Col, Grid, Row};
+use make_card::Made;
 use refusals::{KernelFields, Refusal};
 use std::fmt::Write as _;
 use std::io::{Read, Write};
+use std::process::ExitCode;
 use table::{Buffers, Decimation};
 
 struct Header {
@@ -37,17 +44,59 @@ fn float(card: &[u8], at: usize) -> f64 {
     f64::from_le_bytes(card[at..at + 8].try_into().unwrap())
 }
 
+/// The checks of a card, in document 01's order.
+#[derive(Clone, Copy, PartialEq, Eq, PartialOrd, Ord)]
+enum Check {
+    Length,
+    Header,
+    Word,
+    Grid,
+    Factor,
+    Coarse,
+    Table,
+    Sections,
+}
+
+/// A card's refusal, and the check that it comes from.
+#[derive(Clone, Copy, PartialEq, Eq, PartialOrd, Ord)]
+struct Refused {
+    check: Check,
+    number: Refusal,
+}
+
+impl Refused {
+    fn cause(self) -> &'static str {
+        match (self.number, self.check) {
+            (1, _) => "width or height 0",
+            (2, _) => "width or height over 1,048,576",
+            (3, _) => "origin not finite",
+            (4, _) => "origin latitude outside ±90",
+            (5, _) => "a step not finite",
+            (6, _) => "a step of 0",
+            (7, _) => "lat_step above 0",
+            (8, _) => "the south edge is below -90",
+            (9, _) => "the columns are more than 360 degrees wide",
+            (10, _) => "the factor is 0, or does not divide width and height",
+            (25, Check::Header) => "shorter than its header",
+            (25, _) => "rows or circles past the card's end",
+            (26, _) => "the word at 60 is not zero",
+            (_, Check::Length) => "longer than 65,536 bytes",
+            _ => "(width + 1) × (height + 1) over 8,192",
+        }
+    }
+}
+
 /// Document 01's order: 27 (length), 25 (header), 26, 1 to 9, 10 with the coarse grid's own 1 to 9, 27 (table),
 /// 25 (sections).
-fn header(card: &[u8]) -> Result<Header, Refusal> {
+fn header(card: &[u8]) -> Result<Header, Refused> {
     if card.len() > 65536 {
-        return Err(27);
+        return Err(Refused { check: Check::Length, number: 27 });
     }
     if card.len() < 64 {
-        return Err(25);
+        return Err(Refused { check: Check::Header, number: 25 });
     }
     if word(card, 60) != 0 {
-        return Err(26);
+        return Err(Refused { check: Check::Word, number: 26 });
     }
     let source = refusals::new_grid(Grid {
         width: word(card, 0),
@@ -55,15 +104,17 @@ fn header(card: &[u8]) -> Result<Header, Refusal> {
         origin: LatLon { lat: float(card, 8), lon: float(card, 16) },
         lon_step: float(card, 24),
         lat_step: float(card, 32),
+    });
+    let source = source.map_err(|number| Refused { check: Check::Grid, number })?;
+    let decimation = refusals::new_decimation(source, word(card, 44)).map_err(|number| {
+        let check = if number == 10 { Check::Factor } else { Check::Coarse };
+        Refused { check, number }
     })?;
-    let decimation = refusals::new_decimation(source, word(card, 44))?;
-    let (width, height) = (u64::from(source.width), u64::from(source.height));
-    if (width + 1) * (height + 1) > 8192 {
-        return Err(27);
+    if (u64::from(source.width) + 1) * (u64::from(source.height) + 1) > 8192 {
+        return Err(Refused { check: Check::Table, number: 27 });
     }
-    let inside = |offset: u32, length: u64| u64::from(offset) + length <= card.len() as u64;
-    if !inside(word(card, 48), 4 * width * height) || !inside(word(card, 56), 16 * u64::from(word(card, 52))) {
-        return Err(25);
+    if !rows_inside(card) || !circles_inside(card) {
+        return Err(Refused { check: Check::Sections, number: 25 });
     }
     Ok(Header {
         decimation,
@@ -72,6 +123,18 @@ fn header(card: &[u8]) -> Result<Header, Refusal> {
         circles: word(card, 52) as usize,
         circles_at: word(card, 56) as usize,
     })
+}
+
+fn rows_inside(card: &[u8]) -> bool {
+    inside(card, word(card, 48), 4 * u128::from(word(card, 0)) * u128::from(word(card, 4)))
+}
+
+fn circles_inside(card: &[u8]) -> bool {
+    inside(card, word(card, 56), 16 * u128::from(word(card, 52)))
+}
+
+fn inside(card: &[u8], offset: u32, length: u128) -> bool {
+    u128::from(offset) + length <= card.len() as u128
 }
 
 /// A count that is whole in 0 to 2^53, or its bits.
@@ -95,8 +158,7 @@ fn people(grid: &Grid, cells: &[f64], row: u32, col: u32, km: f64) -> Result<f64
     }
     let mut half_widths = vec![0; grid.height as usize];
     let kernel = refusals::new_kernel(*grid, Row(row), km, &mut half_widths)?;
-    let fields =
-        KernelFields { grid: *grid, centre: row, km, north: kernel.north.0, count: kernel.count };
+    let fields = KernelFields { grid: *grid, centre: row, km, north: kernel.north.0, count: kernel.count };
     refusals::circle_population(grid, cells, fields, &half_widths, Col(col))
 }
 
@@ -128,77 +190,82 @@ fn report(card: &[u8], h: &Header) -> Result<String, Refusal> {
     Ok(text)
 }
 
-pub fn answer(card: &[u8]) -> String {
-    header(card).and_then(|h| report(card, &h)).unwrap_or_else(|n| format!("refused {n}\n"))
+fn answer(card: &[u8]) -> String {
+    header(card)
+        .map_err(|refused| refused.number)
+        .and_then(|h| report(card, &h))
+        .unwrap_or_else(|number| format!("refused {number}\n"))
 }
 
-#[cfg(linked)]
-mod linked {
-    use std::time::{Duration, Instant};
-
-    extern "C" {
-        fn exports_card_answer(card: *const u8, card_len: usize, out: *mut u8, out_len: usize) -> usize;
-    }
-
-    /// What the proved code prints. The buffer is full of another byte first, so that what is not written shows.
-    fn proved(card: &[u8], out: &mut [u8]) -> usize {
-        unsafe { exports_card_answer(card.as_ptr(), card.len(), out.as_mut_ptr(), out.len()) }
-    }
-
-    pub fn compare(seed: u64, count: u64, kind: &str) {
-        let mut out = vec![0u8; 300_000];
-        let (mut accepted, mut rust, mut ours) = (0, Duration::ZERO, Duration::ZERO);
-        for i in 0..count {
-            let card = crate::generate_cards::card(seed, i, kind);
-            let began = Instant::now();
-            let expected = crate::answer(&card);
-            rust += began.elapsed();
-            out.fill(0xaa);
-            let began = Instant::now();
-            let n = proved(&card, &mut out);
-            ours += began.elapsed();
-            if out[..n] != *expected.as_bytes() || out[n..].iter().any(|&b| b != 0xaa) {
-                std::fs::write("target/reference/differs.card", &card).unwrap();
-                println!("card {i} of seed {seed} differs; it is in target/reference/differs.card");
-                println!("rust:\n{expected}\nproved:\n{}", String::from_utf8_lossy(&out[..n]));
-                std::process::exit(1);
-            }
-            accepted += u64::from(!expected.starts_with("refused"));
-        }
-        println!("{count} cards, {accepted} of them accepted, no difference");
-        println!("time: proved {:.3} s, rust {:.3} s", ours.as_secs_f64(), rust.as_secs_f64());
-    }
-}
-
-fn main() {
+fn main() -> ExitCode {
     let words: Vec<String> = std::env::args().skip(1).collect();
-    let number = |i: usize| words.get(i).and_then(|w| w.parse::<u64>().ok()).unwrap_or(0);
-    let mut input = Vec::new();
-    match words.first().map(String::as_str) {
-        Some("answer") => {
-            std::io::stdin().read_to_end(&mut input).unwrap();
-            print!("{}", answer(&input));
+    let words: Vec<&str> = words.iter().map(String::as_str).collect();
+    let done = match words[..] {
+        ["answer"] => Some(input().and_then(|card| output(answer(&card).as_bytes()))),
+        ["make"] => Some(input().and_then(|text| make(&text))),
+        ["text"] => Some(input().and_then(|card| written(&card)).and_then(|text| output(text.as_bytes()))),
+        [command, seed, number] => seeded(command, seed, number, "mixed"),
+        [command, seed, number, kind] => seeded(command, seed, number, kind),
+        _ => None,
+    };
+    match done {
+        Some(Ok(())) => ExitCode::SUCCESS,
+        Some(Err(what)) => {
+            eprintln!("{what}");
+            ExitCode::FAILURE
         }
-        Some("make") => {
-            let mut text = String::new();
-            std::io::stdin().read_to_string(&mut text).unwrap();
-            match make_card::card(&text) {
-                Ok(card) => std::io::stdout().write_all(&card).unwrap(),
-                Err(line) => {
-                    eprintln!("line {line} is no part of a card");
-                    std::process::exit(1);
-                }
-            }
-        }
-        Some("generate") => {
-            let kind = words.get(3).map_or("all", String::as_str);
-            std::io::stdout().write_all(&generate_cards::card(number(1), number(2), kind)).unwrap();
-        }
-        #[cfg(linked)]
-        Some("compare") => linked::compare(number(1), number(2), words.get(3).map_or("all", String::as_str)),
-        _ => {
-            eprintln!("usage: cards answer | make | generate SEED NUMBER [KIND] | compare SEED COUNT [KIND]");
-            std::process::exit(2);
+        None => {
+            eprintln!(
+                "usage: cards make | text | answer | (generate | compare | program | back) SEED N [KIND]"
+            );
+            ExitCode::from(2)
         }
     }
+}
+
+/// None where the words are no use of the command.
+fn seeded(command: &str, seed: &str, number: &str, kind: &str) -> Option<Result<(), String>> {
+    let (seed, number) = (seed.parse().ok()?, number.parse().ok()?);
+    let kind = Kind::named(kind)?;
+    match command {
+        "generate" => Some(output(&generate_cards::card(seed, number, kind))),
+        _ if number == 0 => None,
+        #[cfg(linked)]
+        "compare" => Some(compare_cards::linked(seed, number, kind)),
+        "program" => Some(compare_cards::program(seed, number, kind)),
+        "back" => Some(compare_cards::back(seed, number, kind)),
+        _ => None,
+    }
+}
+
+fn input() -> Result<Vec<u8>, String> {
+    let mut bytes = Vec::new();
+    std::io::stdin().read_to_end(&mut bytes).map_err(|error| format!("standard input: {error}"))?;
+    Ok(bytes)
+}
+
+fn output(bytes: &[u8]) -> Result<(), String> {
+    let mut out = std::io::stdout();
+    out.write_all(bytes).and_then(|()| out.flush()).map_err(|error| format!("standard output: {error}"))
+}
+
+fn make(text: &[u8]) -> Result<(), String> {
+    let made = made(text)?;
+    made.notes().iter().for_each(|note| eprintln!("{note}"));
+    output(&made.card)
+}
+
+fn made(text: &[u8]) -> Result<Made, String> {
+    let text =
+        std::str::from_utf8(text).map_err(|_| "this is no text (a card's text is UTF-8)".to_string())?;
+    make_card::card(text).map_err(|mistake| format!("line {}: {}", mistake.line, mistake.what))
+}
+
+/// The text, which is tried: it gives the card back, or one with the same fields laid out as usual.
+fn written(card: &[u8]) -> Result<String, String> {
+    let text = card_text::text(card)?;
+    if made(text.as_bytes())?.card != card {
+        eprintln!("note: this card's sections are not laid out as usual; a card made from the text holds the same fields");
+    }
+    Ok(text)
 }

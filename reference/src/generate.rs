@@ -1,6 +1,6 @@
 // Lists of calls. Each call depends on the seed and its own number alone, so that a long list can be made in parts.
-pub use crate::random::Random;
 use crate::calls::LONGEST;
+pub use crate::random::Random;
 use crate::table::FNV_OFFSET_BASIS;
 use std::f64::consts::PI;
 use std::ops::RangeInclusive;

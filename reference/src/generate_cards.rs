@@ -56,8 +56,7 @@ fn good(r: &mut Random) -> Vec<u8> {
     let lon = r.of(&[-180.0, -180.0, 0.0, 179.99, 540.0, -180.00000000000003, 12.5]);
     let nodata = r.of(&NODATA);
     let kind = r.below(6);
-    let rows: Vec<u8> =
-        (0..width * height).flat_map(|_| cell(r, nodata, kind).to_le_bytes()).collect();
+    let rows: Vec<u8> = (0..width * height).flat_map(|_| cell(r, nodata, kind).to_le_bytes()).collect();
     let mut circles = Vec::new();
     for _ in 0..r.below(9) {
         let place = |r: &mut Random, n: u32| {
@@ -90,25 +89,13 @@ fn put(card: &mut [u8], at: usize, bytes: &[u8]) {
 fn damage(r: &mut Random, card: &mut Vec<u8>) {
     let length = card.len() as u32;
     match r.below(8) {
-        0 => {
-            let at = r.of(&[0, 4, 40, 44, 48, 52, 56, 60]);
-            let value = r.of(&WORDS);
-            put(card, at, &value.to_le_bytes());
-        }
-        1 => {
-            let at = r.of(&[8, 16, 24, 32]);
-            let value = r.of(&FLOATS);
-            put(card, at, &value.to_le_bytes());
-        }
+        0 => put(card, r.of(&[0, 4, 40, 44, 48, 52, 56, 60]), &r.of(&WORDS).to_le_bytes()),
+        1 => put(card, r.of(&[8, 16, 24, 32]), &r.of(&FLOATS).to_le_bytes()),
         2 => {
             let to = r.of(&[0, 1, 59, 60, 63, 64, length.saturating_sub(1), length / 2]) as usize;
             card.truncate(to);
         }
-        3 => {
-            let at = r.below(u64::from(length.max(1))) as usize;
-            let value = r.word() as u8;
-            put(card, at, &[value]);
-        }
+        3 => put(card, r.below(u64::from(length.max(1))) as usize, &[r.word() as u8]),
         4 => {
             let at = r.of(&[48, 56]);
             let near = length.wrapping_sub(r.of(&[0, 1, 4, 16, 32])).wrapping_add(r.of(&[0, 1]));
@@ -120,23 +107,84 @@ fn damage(r: &mut Random, card: &mut Vec<u8>) {
             put(card, 56, &near.to_le_bytes());
         }
         6 => card.resize(r.of(&[65_535, 65_536, 65_537, 70_000]), 0),
-        _ => {
-            let at = r.of(&[0, 4, 44]);
-            let value = r.below(30) as u32;
-            put(card, at, &value.to_le_bytes());
-        }
+        _ => put(card, r.of(&[0, 4, 44]), &(r.below(30) as u32).to_le_bytes()),
     }
 }
 
-/// Bytes of any length, the word at 60 zero or not.
-fn random_bytes(r: &mut Random) -> Vec<u8> {
-    let length = r.below(70_001) as usize;
+/// Bytes of any length: of one card in sixteen all of them, and else those of the rows. Each field of the header is right
+/// fifteen times in sixteen, so that every check is met, and so is every circle's.
+fn random(r: &mut Random) -> Vec<u8> {
+    let length = match r.below(32) {
+        0 => r.below(65),
+        1 => 65_530 + r.below(10),
+        _ => r.below(70_001),
+    } as usize;
     let mut card: Vec<u8> = (0..length.div_ceil(8)).flat_map(|_| r.word().to_le_bytes()).collect();
     card.truncate(length);
-    if r.one_in(2) {
-        put(&mut card, 60, &[0; 4]);
+    if !r.one_in(16) && length >= 64 {
+        random_header(r, &mut card);
     }
     card
+}
+
+fn random_header(r: &mut Random, card: &mut [u8]) {
+    let factor = r.of(&[1, 1, 2, 3, 4, 7]);
+    let side = |r: &mut Random, most: u64| (r.below(most) + 1) as u32 * factor;
+    let (width, height) = if r.one_in(8) { (side(r, 700), side(r, 3)) } else { (side(r, 12), side(r, 8)) };
+    let lat = r.of(&[90.0, 90.0, 60.5, 0.0, -89.0]);
+    let lon = r.of(&[-180.0, 0.0, 179.99, 540.0, -1e300]);
+    let lon_step = limit(r, 360.0, width) * r.of(&[1.0, 1.0, -1.0, 0.5]);
+    let lat_step = limit(r, lat + 90.0, height) * r.of(&[-1.0, -1.0, -0.5]);
+    for (at, value) in [(8, lat), (16, lon), (24, lon_step), (32, lat_step)] {
+        let value = if r.one_in(16) { any_float(r) } else { value };
+        put(card, at, &value.to_le_bytes());
+    }
+    // A section stands anywhere in the card where it fits, over the header too.
+    let length = card.len() as u64;
+    let place = |r: &mut Random, size: u64| r.below(length.saturating_sub(size) + 1) as u32;
+    let circles = r.below(12) as u32;
+    let rows_at = place(r, 4 * u64::from(width) * u64::from(height));
+    let circles_at = place(r, 16 * u64::from(circles));
+    random_circles(r, card, [height / factor, width / factor], circles_at as usize, circles);
+    let words =
+        [(0, width), (4, height), (44, factor), (48, rows_at), (52, circles), (56, circles_at), (60, 0)];
+    for (at, value) in words {
+        let value = if r.one_in(16) { any_word(r) } else { value };
+        put(card, at, &value.to_le_bytes());
+    }
+}
+
+/// The step of so many cells over a span, or one at the end of the tolerance.
+fn limit(r: &mut Random, span: f64, cells: u32) -> f64 {
+    let step = (span + r.of(&[0.0, 1e-9])) / f64::from(cells);
+    f64::from_bits(step.to_bits() + r.below(5) - 2)
+}
+
+fn random_circles(r: &mut Random, card: &mut [u8], size: [u32; 2], at: usize, count: u32) {
+    for i in 0..count as usize {
+        for (place, cells) in [(0, size[0]), (4, size[1])] {
+            let index = if r.one_in(16) { any_word(r) } else { r.below(u64::from(cells)) as u32 };
+            put(card, at + 16 * i + place, &index.to_le_bytes());
+        }
+        let km = radius(r);
+        put(card, at + 16 * i + 8, &km.to_le_bytes());
+    }
+}
+
+fn any_word(r: &mut Random) -> u32 {
+    match r.below(3) {
+        0 => r.of(&WORDS),
+        1 => r.below(5000) as u32,
+        _ => r.word() as u32,
+    }
+}
+
+fn any_float(r: &mut Random) -> f64 {
+    if r.one_in(2) {
+        r.of(&FLOATS)
+    } else {
+        f64::from_bits(r.word())
+    }
 }
 
 /// The dearest card: 4,095 columns, one row, and every circle that fits.
@@ -153,17 +201,39 @@ fn worst(r: &mut Random) -> Vec<u8> {
     laid_out([4095, 1], [60.0, -180.0, lon_step, -1.0], 0xc61c_3c00, 1, &rows, &circles)
 }
 
-/// A card of a kind: `good`, `damaged`, `random`, `worst`, or a mixture.
-pub fn card(seed: u64, number: u64, kind: &str) -> Vec<u8> {
+#[derive(Clone, Copy)]
+pub enum Kind {
+    Good,
+    Damaged,
+    Random,
+    Worst,
+    /// Good ones with up to two damages.
+    Mixed,
+}
+
+impl Kind {
+    pub fn named(name: &str) -> Option<Self> {
+        match name {
+            "good" => Some(Self::Good),
+            "damaged" => Some(Self::Damaged),
+            "random" => Some(Self::Random),
+            "worst" => Some(Self::Worst),
+            "mixed" => Some(Self::Mixed),
+            _ => None,
+        }
+    }
+}
+
+pub fn card(seed: u64, number: u64, kind: Kind) -> Vec<u8> {
     let mut r = Random(seed.wrapping_mul(0x2545_f491_4f6c_dd1d) ^ number.wrapping_mul(0x9e37_79b9_7f4a_7c15));
     r.word();
     match kind {
-        "good" => good(&mut r),
-        "random" => random_bytes(&mut r),
-        "worst" => worst(&mut r),
-        _ => {
+        Kind::Good => good(&mut r),
+        Kind::Random => random(&mut r),
+        Kind::Worst => worst(&mut r),
+        Kind::Damaged | Kind::Mixed => {
             let mut card = good(&mut r);
-            let damages = if kind == "damaged" { 1 + r.below(3) } else { r.below(3) };
+            let damages = if matches!(kind, Kind::Damaged) { 1 + r.below(3) } else { r.below(3) };
             for _ in 0..damages {
                 damage(&mut r, &mut card);
             }

@@ -27,17 +27,21 @@ fn main() -> ExitCode {
     let arguments: Vec<String> = env::args().skip(1).collect();
     let arguments: Vec<&str> = arguments.iter().map(String::as_str).collect();
     let done = match arguments[..] {
-        ["answer"] => answer(),
-        ["sample"] => sample(),
+        ["answer"] => Some(answer()),
+        ["sample"] => Some(sample()),
         ["generate", seed, from, count] => generate(seed, from, count, "all"),
         ["generate", seed, from, count, module] => generate(seed, from, count, module),
-        _ => Err(io::Error::other("answer | sample | generate SEED FROM COUNT [MODULE]")),
+        _ => None,
     };
     match done {
-        Ok(()) => ExitCode::SUCCESS,
-        Err(error) => {
-            eprintln!("reference: {error}");
+        Some(Ok(())) => ExitCode::SUCCESS,
+        Some(Err(error)) => {
+            eprintln!("driver: {error}");
             ExitCode::FAILURE
+        }
+        None => {
+            eprintln!("usage: driver answer | sample | generate SEED FROM COUNT [MODULE]");
+            ExitCode::from(2)
         }
     }
 }
@@ -55,16 +59,14 @@ fn answer() -> io::Result<()> {
     out.flush()
 }
 
-/// The calls of a seed's list from number FROM on.
-fn generate(seed: &str, from: &str, count: &str, module: &str) -> io::Result<()> {
-    let whole = |text: &str| text.parse::<u64>().map_err(io::Error::other);
-    let (seed, from, count) = (whole(seed)?, whole(from)?, whole(count)?);
-    let numbers = generate::numbers_of(module).ok_or_else(|| io::Error::other("no such module"))?;
+/// The calls of a seed's list from number FROM on; None where the words are no such list.
+fn generate(seed: &str, from: &str, count: &str, module: &str) -> Option<io::Result<()>> {
+    let (seed, from, count): (u64, u64, u64) = (seed.parse().ok()?, from.parse().ok()?, count.parse().ok()?);
+    let (numbers, end) = (generate::numbers_of(module)?, from.checked_add(count)?);
     let mut out = BufWriter::with_capacity(1 << 16, io::stdout().lock());
-    for index in from..from + count {
-        write_line(&mut out, &generate::call(seed, index, &numbers))?;
-    }
-    out.flush()
+    let written =
+        (from..end).try_for_each(|index| write_line(&mut out, &generate::call(seed, index, &numbers)));
+    Some(written.and_then(|()| out.flush()))
 }
 
 /// The calls of the stored sample.

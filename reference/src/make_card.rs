@@ -1,49 +1,228 @@
-// A card from readable text: a line for each field, row and circle, in any order. `#` starts a comment.
-//
-//     size 4 2            width and height
-//     origin 90 -180      latitude and longitude
-//     steps 90 -90        lon_step and lat_step
-//     nodata -9999        as an f32; or bits ffc00001
-//     factor 1
-//     row 1 2 3 4         as f32
-//     circle 0 0 7000     row, column, radius in km
+// A card from readable text. docs/CARD.md has the form: a line for each field, row and circle; `#` starts a comment.
+use crate::{answer, header, Check, Refused};
+use std::collections::BTreeMap;
 
-/// The card, or the number of the first line that is no part of one.
-pub fn card(text: &str) -> Result<Vec<u8>, usize> {
-    let mut size = [0u32; 2];
-    let mut degrees = [0f64; 4];
-    let (mut nodata, mut factor) = (0u32, 1u32);
-    let (mut rows, mut circles): (Vec<u8>, Vec<u8>) = (Vec::new(), Vec::new());
-    for (i, line) in text.lines().enumerate() {
-        let wrong = i + 1;
-        let mut words = line.split('#').next().unwrap_or("").split_whitespace();
-        let Some(field) = words.next() else { continue };
-        let words: Vec<&str> = words.collect();
-        match (field, words.as_slice()) {
-            ("size", [w, h]) => size = [parsed(w, wrong)?, parsed(h, wrong)?],
-            ("origin", [lat, lon]) => (degrees[0], degrees[1]) = (parsed(lat, wrong)?, parsed(lon, wrong)?),
-            ("steps", [lon, lat]) => (degrees[2], degrees[3]) = (parsed(lon, wrong)?, parsed(lat, wrong)?),
-            ("nodata", ["bits", bits]) => nodata = u32::from_str_radix(bits, 16).map_err(|_| wrong)?,
-            ("nodata", [x]) => nodata = parsed::<f32>(x, wrong)?.to_bits(),
-            ("factor", [k]) => factor = parsed(k, wrong)?,
-            ("row", cells) => {
-                for cell in cells {
-                    rows.extend(parsed::<f32>(cell, wrong)?.to_le_bytes());
-                }
-            }
-            ("circle", [row, col, km]) => {
-                circles.extend(parsed::<u32>(row, wrong)?.to_le_bytes());
-                circles.extend(parsed::<u32>(col, wrong)?.to_le_bytes());
-                circles.extend(parsed::<f64>(km, wrong)?.to_le_bytes());
-            }
-            _ => return Err(wrong),
-        }
-    }
-    Ok(laid_out(size, degrees, nodata, factor, &rows, &circles))
+/// What is wrong in a text, and on which line.
+pub struct Mistake {
+    pub line: usize,
+    pub what: String,
 }
 
-fn parsed<T: std::str::FromStr>(word: &str, wrong: usize) -> Result<T, usize> {
-    word.parse().map_err(|_| wrong)
+/// A card, and the lines of its circles.
+pub struct Made {
+    pub card: Vec<u8>,
+    circle_lines: Vec<usize>,
+}
+
+impl Made {
+    /// A circle may be refused: the card is answered all the same, but it may not be meant.
+    pub fn notes(&self) -> Vec<String> {
+        let mut refused: BTreeMap<String, Vec<usize>> = BTreeMap::new();
+        let text = answer(&self.card);
+        let circles = text.lines().filter(|line| line.starts_with("circle"));
+        for (circle, &line) in circles.zip(&self.circle_lines) {
+            if let Some((_, number)) = circle.split_once(" refused ") {
+                refused.entry(number.to_string()).or_default().push(line);
+            }
+        }
+        let note = |(number, lines): (String, Vec<usize>)| match lines[..] {
+            [line] => format!("note: line {line}: the box will refuse this circle: {number}"),
+            _ => format!(
+                "note: line {} and {} more: the box will refuse these circles: {number}",
+                lines[0],
+                lines.len() - 1
+            ),
+        };
+        refused.into_iter().map(note).collect()
+    }
+}
+
+/// The words of a line, and what they take.
+const FORMS: [(&str, &str); 8] = [
+    ("size", "a width and a height"),
+    ("origin", "a latitude and a longitude"),
+    ("steps", "lon_step and lat_step"),
+    ("nodata", "one number"),
+    ("factor", "one whole number"),
+    ("row", "a number for each column"),
+    ("circle", "a row, a column and a radius in km"),
+    ("refused", "the number of the refusal that is meant"),
+];
+
+/// A field that stands once, with the number of its line.
+type Once<T> = Option<(usize, T)>;
+
+#[derive(Default)]
+struct Fields {
+    line: usize,
+    size: Once<[u32; 2]>,
+    origin: Once<[f64; 2]>,
+    steps: Once<[f64; 2]>,
+    nodata: Once<u32>,
+    factor: Once<u32>,
+    refused: Once<u64>,
+    row_count: u32,
+    rows: Vec<u8>,
+    circles: Vec<u8>,
+    circle_lines: Vec<usize>,
+}
+
+/// The card, checked as the box does it, or the first mistake.
+pub fn card(text: &str) -> Result<Made, Mistake> {
+    let mut fields = Fields::default();
+    for line in text.lines() {
+        fields.line += 1;
+        let words: Vec<&str> = line.split('#').next().unwrap_or("").split_whitespace().collect();
+        if let Some((&field, words)) = words.split_first() {
+            fields.take(field, words).map_err(|what| Mistake { line: fields.line, what })?;
+        }
+    }
+    let card = fields.laid_out().map_err(|what| Mistake { line: fields.line.max(1), what })?;
+    fields.check(header(&card).err())?;
+    Ok(Made { card, circle_lines: fields.circle_lines })
+}
+
+impl Fields {
+    fn take(&mut self, field: &str, words: &[&str]) -> Result<(), String> {
+        let line = self.line;
+        match (field, words) {
+            ("size", [width, height]) => once(&mut self.size, line, [whole(width)?, whole(height)?]),
+            ("origin", [lat, lon]) => once(&mut self.origin, line, [float(lat)?, float(lon)?]),
+            ("steps", [lon, lat]) => once(&mut self.steps, line, [float(lon)?, float(lat)?]),
+            ("nodata", [mark]) => once(&mut self.nodata, line, cell(mark)?),
+            ("factor", [factor]) => once(&mut self.factor, line, whole(factor)?),
+            ("refused", [number]) => once(&mut self.refused, line, u64::from(whole(number)?)),
+            ("row", cells) => self.row(cells),
+            ("circle", [row, col, km]) => {
+                self.circles.extend(whole(row)?.to_le_bytes());
+                self.circles.extend(whole(col)?.to_le_bytes());
+                self.circles.extend(float(km)?.to_le_bytes());
+                self.circle_lines.push(line);
+                Ok(())
+            }
+            _ => Err(match FORMS.iter().find(|(name, _)| *name == field) {
+                Some((name, takes)) => format!("`{name}` takes {takes}; here are {} words", words.len()),
+                None => {
+                    format!("`{field}` is none of {}", FORMS.map(|(name, _)| name).join(", "))
+                }
+            }),
+        }
+    }
+
+    fn row(&mut self, cells: &[&str]) -> Result<(), String> {
+        let (_, [width, height]) = self.size.ok_or("a `row` ahead of `size`")?;
+        if self.row_count == height {
+            return Err(format!("a row too many: `size` says {height}"));
+        }
+        if cells.len() != width as usize {
+            return Err(format!("a row of {} cells: `size` says {width}", cells.len()));
+        }
+        self.row_count += 1;
+        for word in cells {
+            self.rows.extend(cell(word)?.to_le_bytes());
+        }
+        Ok(())
+    }
+
+    /// Header, rows at 64, circles behind them.
+    fn laid_out(&self) -> Result<Vec<u8>, String> {
+        let missing = |name: &str| format!("the text ends, and there is no line `{name}`");
+        let (_, [width, height]) = self.size.ok_or_else(|| missing("size"))?;
+        let (_, [lat, lon]) = self.origin.ok_or_else(|| missing("origin"))?;
+        let (_, [lon_step, lat_step]) = self.steps.ok_or_else(|| missing("steps"))?;
+        let (_, nodata) = self.nodata.ok_or_else(|| missing("nodata"))?;
+        let (_, factor) = self.factor.ok_or_else(|| missing("factor"))?;
+        // Rows of no cells need no lines.
+        if width > 0 && self.row_count < height {
+            return Err(format!("the text ends, and {} of {height} rows are there", self.row_count));
+        }
+        let degrees = [lat, lon, lon_step, lat_step];
+        Ok(laid_out([width, height], degrees, nodata, factor, &self.rows, &self.circles))
+    }
+
+    /// A card that the box refuses is a mistake, unless a line `refused` has the number.
+    fn check(&self, refused: Option<Refused>) -> Result<(), Mistake> {
+        match (self.refused, refused) {
+            (None, None) => Ok(()),
+            (None, Some(by)) => Err(Mistake {
+                line: self.line_of(by),
+                what: format!("the box would refuse this card: {}, {}", by.number, by.cause()),
+            }),
+            (Some((_, number)), Some(by)) if number == by.number => Ok(()),
+            (Some((line, _)), by) => {
+                let number = by.map_or("nothing".to_string(), |by| by.number.to_string());
+                Err(Mistake { line, what: format!("the box would refuse {number} here") })
+            }
+        }
+    }
+
+    /// The line that a check is about; the last one where it is about the whole.
+    fn line_of(&self, by: Refused) -> usize {
+        let line = match (by.check, by.number) {
+            (Check::Table, _) | (Check::Grid, 1 | 2) => self.size.map(|(line, _)| line),
+            (Check::Grid, 3 | 4) => self.origin.map(|(line, _)| line),
+            (Check::Grid, _) => self.steps.map(|(line, _)| line),
+            (Check::Factor | Check::Coarse, _) => self.factor.map(|(line, _)| line),
+            _ => None,
+        };
+        line.unwrap_or(self.line)
+    }
+}
+
+fn once<T>(field: &mut Once<T>, line: usize, value: T) -> Result<(), String> {
+    match field {
+        Some((before, _)) => Err(format!("line {before} has this field already")),
+        None => {
+            *field = Some((line, value));
+            Ok(())
+        }
+    }
+}
+
+fn whole(word: &str) -> Result<u32, String> {
+    word.parse().map_err(|_| format!("{word} is no whole number from 0 to 4294967295"))
+}
+
+/// The bits of an f32: a number, or `bits:` and 8 hexadecimal digits.
+fn cell(word: &str) -> Result<u32, String> {
+    if let Some(digits) = word.strip_prefix("bits:") {
+        return Ok(pattern(digits, 8)? as u32);
+    }
+    let x: f32 = word.parse().map_err(|_| format!("{word} is no number"))?;
+    held(word, f64::from(x), "32")?;
+    Ok(x.to_bits())
+}
+
+/// An f64: a number, or `bits:` and 16 hexadecimal digits.
+fn float(word: &str) -> Result<f64, String> {
+    if let Some(digits) = word.strip_prefix("bits:") {
+        return Ok(f64::from_bits(pattern(digits, 16)?));
+    }
+    let x: f64 = word.parse().map_err(|_| format!("{word} is no number"))?;
+    held(word, x, "64")?;
+    Ok(x)
+}
+
+fn pattern(digits: &str, length: usize) -> Result<u64, String> {
+    let right = digits.len() == length && digits.bytes().all(|digit| digit.is_ascii_hexdigit());
+    let wrong = || format!("bits:{digits} has not {length} hexadecimal digits");
+    u64::from_str_radix(digits, 16).ok().filter(|_| right).ok_or_else(wrong)
+}
+
+/// A number is rounded to the nearest float. A whole one must be that float; none may become infinite, or zero.
+fn held(word: &str, x: f64, bits: &str) -> Result<(), String> {
+    let digits = word.trim_start_matches(['+', '-']);
+    let named = digits.starts_with(|first: char| first.is_ascii_alphabetic());
+    let zero = !digits.split(['e', 'E']).next().unwrap_or("").contains(|digit| ('1'..='9').contains(&digit));
+    if !named && (x.is_infinite() || x == 0.0 && !zero) {
+        return Err(format!("{word} does not fit a float of {bits} bits"));
+    }
+    match digits.parse::<u128>() {
+        Ok(number) if number != x.abs() as u128 => {
+            Err(format!("{word} does not fit a float of {bits} bits; the nearest is {x:.0}"))
+        }
+        _ => Ok(()),
+    }
 }
 
 /// Header, rows at 64, circles behind them.

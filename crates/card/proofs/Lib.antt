@@ -1,8 +1,3 @@
--- Laws that belong to no one function, and worked examples.
+-- Laws that belong to no one function.
 mod Bytes
 pub mod Headers
-mod Cleared
-mod Lines
-mod Building
-mod Counting
-pub mod Examples

@@ -7,9 +7,9 @@ use lib.ListN.{length}
 use Rattle.refusal.specs.Refusal.{Outcome, answered, refused, first, passed, outcome, andThen, cardEndsEarly, cardWordNotZero, cardTooLarge}
 use Rattle.grid.specs.declared.Grid.{Grid}
 use Rattle.grid.specs.Grid.{gridNew}
-use Rattle.table.specs.declared.Decimation.{Decimation}
+use Rattle.decimation.specs.declared.Decimation.{Decimation}
 use Rattle.table.specs.Place.{tableLength}
-use Rattle.table.specs.Decimation.{decimationNew}
+use Rattle.decimation.specs.Decimation.{decimationNew}
 use Rattle.card.specs.Words.{u32At, f64At, wordsAt}
 use Rattle.card.specs.declared.Header.{Header}
 use Rattle.card.specs.declared.CardCircle.{CardCircle}
@@ -44,15 +44,21 @@ abbrev pub headerOutcome : HeaderAnswer → Outcome Header
 headerOutcome (header.Accepted h) = answered h
 headerOutcome (header.Refused n) = refused n
 
--- 27 (length), 25 (header), 26, 1 to 9, 10 with the coarse grid's own 1 to 9 (factor u32 at 44), 27 (table), 25 (sections)
+-- 27 (table), 25 (sections)
+abbrev pub withHeader : List ℕ → Grid → Header → Outcome Header
+withHeader card g h = outcome (first (tableTooLarge g) cardTooLarge (first (not (sectionsInside card h)) cardEndsEarly passed)) h
+
+-- 10 with the coarse grid's own 1 to 9 (factor u32 at 44), then those
+abbrev pub withGrid : List ℕ → Grid → Outcome Header
+withGrid card g = andThen (decimationNew g (u32At card 44)) (λ d. withHeader card g (headerAt card d))
+
+-- 27 (length), 25 (header), 26, 1 to 9, then those
 unfoldable pub readHeader : List ℕ → Outcome Header
 readHeader card =
     cond (ltb 65536 (length card)) (refused cardTooLarge)
     (cond (ltb (length card) 64) (refused cardEndsEarly)
     (cond (not (eqb (u32At card 60) 0)) (refused cardWordNotZero)
-    (andThen (gridNew (gridAt card)) (λ g.
-    andThen (decimationNew g (u32At card 44)) (λ d.
-    outcome (first (tableTooLarge g) cardTooLarge (first (not (sectionsInside card (headerAt card d))) cardEndsEarly passed)) (headerAt card d))))))
+    (andThen (gridNew (gridAt card)) (withGrid card))))
 
 -- row i: width patterns of f32
 unfoldable pub rowAt : List ℕ → Header → ℕ → List ℕ

@@ -1,5 +1,4 @@
 -- The definitions that the contracts of `card` cite.
 pub mod Words
 pub mod Card
-pub mod Printed
-pub mod Steps
+pub mod private

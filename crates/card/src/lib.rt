@@ -1,14 +1,11 @@
-// The card (document 01): its header, and everything that `count` does with it, to the last byte of the printed text.
-mod build;
-mod circles;
+// The card (document 01): its header with its checks, and its words.
 mod read;
-mod report;
-mod run;
 mod words;
 
+use decimation::Decimation;
 pub use read::read_header;
-pub use run::answer;
-use table::Decimation;
+pub use words::circle_at;
+pub use words::u32_at;
 
 pub struct Header {
     pub decimation: Decimation,

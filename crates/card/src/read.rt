@@ -3,26 +3,25 @@ ghost use mathlib.Core.Path.{_≡_};
 ghost use Prim.Native.Nat.{_+_, _<_, _≤_};
 ghost use lib.ListN.{length};
 ghost use Rattle.grid.specs.Grid.{gridOutcome, gridNew};
-ghost use Rattle.card.specs.Card.{gridAt, headerAt, inside, sectionsInside, tableTooLarge, headerOutcome, readHeader};
-ghost use Rattle.card.specs.Steps.{withHeader, withGrid};
+ghost use Rattle.card.specs.Card.{gridAt, headerAt, inside, sectionsInside, tableTooLarge, headerOutcome, withHeader, withGrid, readHeader};
 use crate::Header;
 use crate::HeaderAnswer;
 use crate::words::f64_at;
 use crate::words::u32_at;
+use decimation::Decimation;
+use decimation::DecimationAnswer;
 use geodesy::LatLon;
 use grid::Grid;
 use grid::GridAnswer;
 use refusal::first;
-use table::Decimation;
-use table::DecimationAnswer;
+use table::Table;
 
 // The most bytes of a card, and the most cells of its source table.
 const MOST_BYTES: usize = 65536;
 
-const MOST_CELLS: u32 = 8192;
+const MOST_TABLE_CELLS: usize = 8192;
 
 fn grid_at(card: &[u8]) -> GridAnswer
-    requires { ⌜ 64 ≤ length (now card) ⌝ }
     ensures { λ r. ⌜ gridOutcome r ≡ gridNew (gridAt (now (card .entry))) ⌝ }
 {
     let width = u32_at(card, 0);
@@ -35,7 +34,6 @@ fn grid_at(card: &[u8]) -> GridAnswer
 }
 
 fn header_at(card: &[u8], d: Decimation) -> Header
-    requires { ⌜ 64 ≤ length (now card) ⌝ }
     ensures { λ r. ⌜ r ≡ headerAt (now (card .entry)) d ⌝ }
 {
     let nodata = u32_at(card, 40);
@@ -54,13 +52,7 @@ fn header_at(card: &[u8], d: Decimation) -> Header
 fn is_table_too_large(g: Grid) -> bool
     ensures { λ r. ⌜ r ≡ tableTooLarge g ⌝ }
 {
-    if MOST_CELLS < g.width {
-        return true;
-    }
-    if MOST_CELLS < g.height {
-        return true;
-    }
-    MOST_CELLS < (g.height + 1) * (g.width + 1)
+    MOST_TABLE_CELLS < Table::padded_len(g)
 }
 
 // A section may end at the card's end.
@@ -104,7 +96,7 @@ fn with_header(card: &[u8], h: Header) -> HeaderAnswer
 
 // 10 with the coarse grid's own 1 to 9, then the rest.
 fn with_grid(card: &[u8], g: Grid) -> HeaderAnswer
-    requires { ⌜ (64 ≤ length (now card)) × (length (now card) ≤ 65536) ⌝ }
+    requires { ⌜ length (now card) ≤ 65536 ⌝ }
     ensures { λ r. ⌜ headerOutcome r ≡ withGrid (now (card .entry)) g ⌝ }
 {
     let made = Decimation::new(g, u32_at(card, 44));

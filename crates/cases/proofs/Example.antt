@@ -10,12 +10,12 @@ use Rattle.float.specs.TwoSum.{twoSum, droppedBy}
 use Rattle.raster.specs.Raster.{kindOf}
 use Rattle.geodesy.specs.Sphere.{wrapLon}
 use Rattle.grid.specs.Grid.{gridRefusal, validGrid, sameGrid}
-use Rattle.table.specs.declared.Builder.{Builder}
+use Rattle.builder.specs.declared.Builder.{Builder}
 use Rattle.table.specs.Place.{cellAt, tableLength}
-use Rattle.table.specs.Sweep.{takenIn, noCarry, swept, accAfter, corrAfter}
-use Rattle.table.specs.Rows.{coarseFilled, handedOn, laidAt}
-use Rattle.table.specs.Decimation.{coarsened, coarseGrid, factorRefusal}
-use Rattle.table.specs.Build.{Buffers, Built, buffers, rightLengths, validBuilder, startRefusal, firstBuilder, clearedBuffers, startCall, rowRefusal, builderAfter, coarseAfter, tableAfter, buffersAfter, rowCall}
+use Rattle.builder.specs.Sweep.{takenIn, noCarry, swept, accAfter, corrAfter}
+use Rattle.builder.specs.Rows.{coarseFilled, handedOn, laidAt}
+use Rattle.decimation.specs.Decimation.{coarsened, coarseGrid, factorRefusal}
+use Rattle.builder.specs.Build.{Buffers, BuilderCall, buffers, rightLengths, validBuilder, startRefusal, firstBuilder, clearedBuffers, startCall, rowRefusal, builderAfter, coarseAfter, tableAfter, buffersAfter, rowCall}
 use Rattle.cases.specs.Cases.{exampleGrid, lentFor, mark, firstRow, secondRow, next, exampleTable}
 
 abbrev zeros : ℕ → List Float
@@ -46,7 +46,7 @@ abbrev f64p15 : Float
 f64p15 = ofBits binary64 0x402e_0000_0000_0000
 
 -- a start and a row call that are not refused
-given : Builder → Buffers → Built
+given : Builder → Buffers → BuilderCall
 given b m = record { answer = answered b; buffers = m }
 
 accepted : (n : ℕ) (b : Builder) (m m′ : Buffers) → n ≡ 0 → record { answer = outcome n b; buffers = unlessRefused n m m′ } ≡ given b m
@@ -70,9 +70,9 @@ module _ (k : ℕ) (m₁ m₂ : Buffers) (s : startRefusal exampleGrid k (lentFo
   after : exampleTable k ≡ m₂ .table
   unfolding exampleTable given
   after =
-      ap (λ (c : Built). next secondRow (next firstRow c) .buffers .table) (start-given k s)
-      ∙ ap (λ (c : Built). next secondRow c .buffers .table) (row-given _ firstRow _ m₁ r₁ e₁)
-      ∙ ap (λ (c : Built). c .buffers .table) (row-given _ secondRow m₁ m₂ r₂ e₂)
+      ap (λ (c : BuilderCall). next secondRow (next firstRow c) .buffers .table) (start-given k s)
+      ∙ ap (λ (c : BuilderCall). next secondRow c .buffers .table) (row-given _ firstRow _ m₁ r₁ e₁)
+      ∙ ap (λ (c : BuilderCall). c .buffers .table) (row-given _ secondRow m₁ m₂ r₂ e₂)
 
 -- ---- factor 1
 

@@ -14,14 +14,14 @@ use Rattle.raster.specs.Raster.{kindOf}
 use Rattle.geodesy.specs.StandIns.{f64p180}
 use Rattle.geodesy.specs.Radius.{widenedBy}
 use Rattle.grid.specs.declared.Grid.{Grid}
-use Rattle.grid.specs.Grid.{f64p90, gridRefusal}
-use Rattle.grid.specs.Lookup.{colAlong}
-use Rattle.table.specs.declared.Builder.{Builder}
+use Rattle.grid.specs.Grid.{f64p90, tolerance, gridNew}
+use Rattle.grid.specs.Lookup.{colAlongCall}
+use Rattle.builder.specs.declared.Builder.{Builder}
 use Rattle.table.specs.Place.{tableLength}
-use Rattle.table.specs.Decimation.{coarseGrid, factorRefusal}
-use Rattle.table.specs.Build.{Buffers, buffers, Built, startCall, rowCall}
-use Rattle.rectangle.specs.Rectangle.{rowBand, rectanglePopulation}
-use Rattle.rectangle.specs.declared.ColSpan.the-variants.{Through}
+use Rattle.decimation.specs.Decimation.{coarseGrid, decimationNew}
+use Rattle.builder.specs.Build.{Buffers, buffers, BuilderCall, startCall, rowCall}
+use Rattle.table.specs.Rectangle.{rowBand, rectanglePopulation}
+use Rattle.table.specs.declared.ColSpan.the-variants.{Through}
 
 pub record Case : Type 0 where
   pub gives : List ℕ
@@ -46,11 +46,11 @@ abbrev pub secondRow : List ℕ
 secondRow = 0x40a0_0000 ∷ mark ∷ 0xbf80_0000 ∷ 0 ∷ []
 
 -- the call that follows on another's builder and buffers
-abbrev pub nextOn : Outcome Builder → Buffers → List ℕ → Built
+abbrev pub nextOn : Outcome Builder → Buffers → List ℕ → BuilderCall
 nextOn (answered b) m row = rowCall b row m
 nextOn (refused n) m row = record { answer = refused n; buffers = m }
 
-abbrev pub next : List ℕ → Built → Built
+abbrev pub next : List ℕ → BuilderCall → BuilderCall
 next row before = nextOn (before .answer) (before .buffers) row
 
 -- buffers of the example's lengths at a factor, all 1.0 before the start
@@ -76,10 +76,20 @@ abbrev pub outcomeBits : Outcome Float → List ℕ
 outcomeBits (answered x) = 0 ∷ bitsOf x ∷ []
 outcomeBits (refused n) = n ∷ []
 
--- 1,048,576 columns of 1e-9 degrees, and one more
-abbrev pub wideGrid : ℕ → Grid
-wideGrid width =
-    record { width = width; height = 1; lat = f64p90; lon = f64zero; «lon_step» = ofBits binary64 0x3e11_2e0b_e826_d695; «lat_step» = neg f64one }
+-- the refusal's number, and 0 for an answer
+abbrev pub numberOf : {A : Type 0} → Outcome A → ℕ
+numberOf (answered a) = 0
+numberOf (refused n) = n
+
+-- 0 and the column, or the refusal
+abbrev pub outcomeNumbers : Outcome ℕ → List ℕ
+outcomeNumbers (answered n) = 0 ∷ n ∷ []
+outcomeNumbers (refused n) = n ∷ []
+
+-- so many columns and rows of 1e-9 degrees
+abbrev pub fineGrid : ℕ → ℕ → Grid
+fineGrid width height =
+    record { width = width; height = height; lat = f64p90; lon = f64zero; «lon_step» = tolerance; «lat_step» = neg tolerance }
 
 abbrev pub table : List Case
 table =
@@ -99,14 +109,14 @@ table =
     -- its factor 2: 0 0 0 / 0 8 15
     ∷ record { gives = map bitsOf (exampleTable 2); says = 0 ∷ 0 ∷ 0 ∷ 0 ∷ 0x4020_0000_0000_0000 ∷ 0x402e_0000_0000_0000 ∷ [] }
     -- factor 0 or 3 there: 10
-    ∷ record { gives = factorRefusal exampleGrid 0 ∷ factorRefusal exampleGrid 3 ∷ []; says = 10 ∷ 10 ∷ [] }
+    ∷ record { gives = numberOf (decimationNew exampleGrid 0) ∷ numberOf (decimationNew exampleGrid 3) ∷ []; says = 10 ∷ 10 ∷ [] }
     -- row 0, west 3, east 0: 5
     ∷ record {
       gives = outcomeBits (rectanglePopulation exampleGrid (exampleTable 1) (rowBand 0 0) (Through (record { 0 = 3 }) (record { 0 = 0 })));
       says = 0 ∷ 0x4014_0000_0000_0000 ∷ [];
     }
     -- width 4, column 1, offset −5: 0
-    ∷ record { gives = colAlong 4 1 (negsuc 4) ∷ []; says = 0 ∷ [] }
+    ∷ record { gives = outcomeNumbers (colAlongCall exampleGrid 1 (negsuc 4)); says = 0 ∷ 0 ∷ [] }
     -- −0.0 with that nodata: zero
     ∷ record { gives = kindNumber (kindOf mark 0x8000_0000) ∷ []; says = 2 ∷ [] }
     -- nodata 0.0, cell 0.0: nodata
@@ -116,6 +126,7 @@ table =
       gives = outcomeBits (widenedBy (record { 0 = ofBits binary64 0x4014_0000_0000_0000 }) (neg (ofBits binary64 0x401c_0000_0000_0000)));
       says = 0 ∷ 0x4014_0000_0000_0000 ∷ [];
     }
-    -- limit 1,048,576 passes 2, one more doesn't
-    ∷ record { gives = gridRefusal (wideGrid 1048576) ∷ gridRefusal (wideGrid 1048577) ∷ []; says = 0 ∷ 2 ∷ [] }
+    -- limit 1,048,576 passes 2, one more doesn't: the width, then the height
+    ∷ record { gives = numberOf (gridNew (fineGrid 1048576 1)) ∷ numberOf (gridNew (fineGrid 1048577 1)) ∷ []; says = 0 ∷ 2 ∷ [] }
+    ∷ record { gives = numberOf (gridNew (fineGrid 1 1048576)) ∷ numberOf (gridNew (fineGrid 1 1048577)) ∷ []; says = 0 ∷ 2 ∷ [] }
     ∷ []

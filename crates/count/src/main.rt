@@ -12,16 +12,16 @@ fn card_buffer() -> [u8; 65537]
 }
 
 // No card's text is longer.
-fn text_buffer() -> [u8; 262144]
-    ensures { λ r. ⌜ 262144 ≡ length r ⌝ }
+fn text_buffer() -> [u8; 139328]
+    ensures { λ r. ⌜ 139328 ≡ length r ⌝ }
 {
-    [0; 262144]
+    [0; 139328]
 }
 
 fn main() {
     let mut bytes = card_buffer();
     let mut text = text_buffer();
     let n = io::read_full(STDIN_FILENO, &mut bytes);
-    let len = card::answer(&bytes[..n], &mut text);
+    let len = report::answer(&bytes[..n], &mut text);
     io::write_all(STDOUT_FILENO, &text[..len]);
 }

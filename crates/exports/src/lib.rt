@@ -1,4 +1,6 @@
 // Some of the calls under C names, for a Rust program to link and to time (reference/bench).
+use builder::Builder;
+use builder::BuilderAnswer;
 use geodesy::LatLon;
 use geodesy::MeasureAnswer;
 use geodesy::RadiusKm;
@@ -8,9 +10,7 @@ use grid::Row;
 use kernel::Kernel;
 use kernel::KernelAnswer;
 use raster::CellTallies;
-use rectangle::PopulationAnswer;
-use table::Builder;
-use table::BuilderAnswer;
+use table::PopulationAnswer;
 
 #[no_mangle]
 pub extern "C" fn exports_sqrt(x: f64) -> f64 {
@@ -152,5 +152,5 @@ pub extern "C" fn exports_circle(
 // What `count` prints of a card, at the start of `out`; the answer is its length.
 #[no_mangle]
 pub extern "C" fn exports_card_answer(card: &[u8], out: &mut [u8]) -> usize {
-    card::answer(card, out)
+    report::answer(card, out)
 }

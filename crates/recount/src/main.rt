@@ -13,16 +13,16 @@ fn card_buffer() -> [u8; 65537]
     [0; 65537]
 }
 
-fn text_buffer() -> [u8; 262144]
-    ensures { λ r. ⌜ 262144 ≡ length r ⌝ }
+fn text_buffer() -> [u8; 139328]
+    ensures { λ r. ⌜ 139328 ≡ length r ⌝ }
 {
-    [0; 262144]
+    [0; 139328]
 }
 
 // The card at the front of `bytes`.
 fn print(bytes: &[u8], n: usize, text: &mut [u8]) {
     if n <= bytes.len() {
-        let len = card::answer(&bytes[..n], text);
+        let len = report::answer(&bytes[..n], text);
         if len <= text.len() {
             io::write_all(STDOUT_FILENO, &text[..len]);
         }

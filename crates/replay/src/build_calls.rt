@@ -1,602 +1,211 @@
-// Call 50: `table`. A session: operations on one builder and the buffers that it is lent.
-use crate::answers;
-use crate::grid_calls;
-use crate::raster_calls;
-use crate::words;
-use crate::words::Place;
-use grid::Grid;
+// Call 50: `builder`. Operations on one builder and on the buffers that it is lent. The builder is kept as its words,
+// behind the longest answer to them.
+use crate::answers::*;
+use crate::calls::list_end;
+use crate::raster_calls::tally_words;
+use crate::words::*;
+use builder::*;
+use decimation::Decimation;
 use raster::CellTallies;
-use table::Builder;
-use table::BuilderAnswer;
-use table::BuiltTable;
-use table::Decimation;
-use table::FinishAnswer;
 
-// Where a session stands: the next word of its operations, and the answer so far. The builder is kept as its 20 words.
-struct Step {
-    at: usize,
-    place: Place,
+// Where the builder's words stand: source grid, coarse grid, factor, nodata, rows, digest, tallies.
+const BUILDER: usize = LENGTH - 20;
+
+pub fn build(call: &[u64], out: &mut Words) -> usize {
+    let fill = word(call, 7) % 0x8000_0000_0000_0000;
+    let none = front(call, 0);
+    let mut acc = cell_space();
+    let mut corr = cell_space();
+    let mut coarse = cell_space();
+    let mut table = cell_space();
+    let acc = load_cells(&mut acc, word(call, 8) as usize, none, fill);
+    let corr = load_cells(&mut corr, word(call, 9) as usize, none, fill);
+    let coarse = load_cells(&mut coarse, word(call, 10) as usize, none, fill);
+    let table = load_cells(&mut table, word(call, 11) as usize, none, fill);
+    put_first(call, out);
+    let end = operations(list(call, 12), out, acc, corr, coarse, table);
+    put_left(out, end, acc, corr, coarse, table)
 }
 
-// How many words the operations and the buffers have, and what the buffers hold at first.
-struct Lengths {
-    fill: u64,
-    acc: usize,
-    corr: usize,
-    coarse: usize,
-    table: usize,
-    list: usize,
-    place: Place,
-}
-
-// A grid, the buffers' first contents and lengths, the operations.
-pub fn call(
-    input: &mut [u8],
-    output: &mut [u8],
-    list: &mut [u64],
-    state: &mut [u64],
-    row: &mut [u32],
-    acc: &mut [f64],
-    corr: &mut [f64],
-    coarse: &mut [f64],
-    table: &mut [f64],
-    p: Place,
-) -> Place {
-    let lengths = take_header(input, state, p);
-    let n = lengths.list;
-    if n <= list.len() {
-        return with_list(
-            input,
-            output,
-            &mut list[..n],
-            state,
-            row,
-            acc,
-            corr,
-            coarse,
-            table,
-            lengths,
-        );
-    }
-    words::write_line(output, lengths.place, answers::unknown())
-}
-
-fn take_header(input: &mut [u8], state: &mut [u64], p: Place) -> Lengths {
-    let taken = grid_calls::take_grid(input, p);
-    let g = taken.grid;
-    begin(state, g);
-    take_lengths(input, taken.place)
-}
-
-fn take_lengths(input: &mut [u8], p: Place) -> Lengths {
-    let first = words::take_pair(input, p);
-    let second = words::take_pair(input, first.place);
-    let third = words::take_pair(input, second.place);
-    let place = third.place;
-    Lengths {
-        fill: first.first,
-        acc: first.second as usize,
-        corr: second.first as usize,
-        coarse: second.second as usize,
-        table: third.first as usize,
-        list: third.second as usize,
-        place,
-    }
-}
-
-fn with_list(
-    input: &mut [u8],
-    output: &mut [u8],
-    list: &mut [u64],
-    state: &mut [u64],
-    row: &mut [u32],
-    acc: &mut [f64],
-    corr: &mut [f64],
-    coarse: &mut [f64],
-    table: &mut [f64],
-    lengths: Lengths,
-) -> Place {
-    let place = words::take_list(input, list, lengths.place);
-    with_table(
-        output,
-        list,
-        state,
-        row,
-        acc,
-        corr,
-        coarse,
-        table,
-        lengths,
-        place,
-    )
-}
-
-// The coarse row and the table of their lengths.
-fn with_table(
-    output: &mut [u8],
-    list: &[u64],
-    state: &mut [u64],
-    row: &mut [u32],
-    acc: &mut [f64],
-    corr: &mut [f64],
-    coarse: &mut [f64],
-    table: &mut [f64],
-    lengths: Lengths,
-    p: Place,
-) -> Place {
-    let c = lengths.coarse;
-    let t = lengths.table;
-    if c <= coarse.len() {
-        if t <= table.len() {
-            return with_rows(
-                output,
-                list,
-                state,
-                row,
-                acc,
-                corr,
-                &mut coarse[..c],
-                &mut table[..t],
-                lengths,
-                p,
-            );
-        }
-    }
-    words::write_line(output, p, answers::unknown())
-}
-
-// The accumulator and the corrections of theirs.
-fn with_rows(
-    output: &mut [u8],
-    list: &[u64],
-    state: &mut [u64],
-    row: &mut [u32],
-    acc: &mut [f64],
-    corr: &mut [f64],
-    coarse: &mut [f64],
-    table: &mut [f64],
-    lengths: Lengths,
-    p: Place,
-) -> Place {
-    let a = lengths.acc;
-    let b = lengths.corr;
-    if a <= acc.len() {
-        if b <= corr.len() {
-            return session(
-                output,
-                list,
-                state,
-                row,
-                &mut acc[..a],
-                &mut corr[..b],
-                coarse,
-                table,
-                lengths.fill,
-                p,
-            );
-        }
-    }
-    words::write_line(output, p, answers::unknown())
-}
-
-fn session(
-    output: &mut [u8],
-    list: &[u64],
-    state: &mut [u64],
-    row: &mut [u32],
-    acc: &mut [f64],
-    corr: &mut [f64],
-    coarse: &mut [f64],
-    table: &mut [f64],
-    first: u64,
-    p: Place,
-) -> Place {
-    fill_all(acc, corr, coarse, table, first);
-    build(output, list, state, row, acc, corr, coarse, table, p)
-}
-
-fn fill_all(acc: &mut [f64], corr: &mut [f64], coarse: &mut [f64], table: &mut [f64], first: u64) {
-    fill(acc, first);
-    fill(corr, first);
-    fill(coarse, first);
-    fill(table, first);
-}
-
-fn build(
-    output: &mut [u8],
-    list: &[u64],
-    state: &mut [u64],
-    row: &mut [u32],
-    acc: &mut [f64],
-    corr: &mut [f64],
-    coarse: &mut [f64],
-    table: &mut [f64],
-    p: Place,
-) -> Place {
-    let done = operations(output, list, state, row, acc, corr, coarse, table, p);
-    put_all(output, state, acc, corr, coarse, table, done)
+// The builder at first: the grid at factor 1, and zeros.
+fn put_first(call: &[u64], out: &mut Words) {
+    let grid = front(from(call, 1), 6);
+    let coarse_at = put_all(out, BUILDER, grid);
+    let factor_at = put_all(out, coarse_at, grid);
+    put_all(out, factor_at, &[1, 0, 0, 0, 0, 0, 0, 0]);
 }
 
 // The buffers and the builder as they are left.
-fn put_all(
-    output: &mut [u8],
-    state: &[u64],
+fn put_left(
+    out: &mut Words,
+    end: usize,
     acc: &[f64],
     corr: &[f64],
     coarse: &[f64],
     table: &[f64],
-    p: Place,
-) -> Place {
-    let rows = put_rows(output, p, acc, corr, coarse);
-    let cells = words::put_cells(output, rows, table);
-    let last = put_builder(output, cells, builder_of(state));
-    words::end_line(output, last)
+) -> usize {
+    let corr_at = put_cells(out, end, acc);
+    let coarse_at = put_cells(out, corr_at, corr);
+    let table_at = put_cells(out, coarse_at, coarse);
+    let builder_at = put_cells(out, table_at, table);
+    let b = builder(out);
+    put_builder(out, builder_at, b)
 }
 
-fn put_rows(output: &mut [u8], p: Place, acc: &[f64], corr: &[f64], coarse: &[f64]) -> Place {
-    let q = words::put_cells(output, p, acc);
-    let r = words::put_cells(output, q, corr);
-    words::put_cells(output, r, coarse)
-}
-
-// Entry i has the pattern of the low 63 bits, plus i.
-fn fill(cells: &mut [f64], first: u64) {
-    let mut next = first % 0x8000_0000_0000_0000;
-    let mut i = 0;
-    while i < cells.len() {
-        cells[i] = float::from_bits(next);
-        next = std::num::wrapping_add_u64(next, 1);
-        i += 1;
-    }
-}
-
-// ---- the builder as words: source grid, coarse grid, factor, nodata, rows, digest, tallies
-
-fn builder_of(state: &[u64]) -> Builder {
-    Builder {
-        source: grid_at(state, 0),
-        coarse: grid_at(state, 6),
-        factor: words::half_of(state, 0, 12),
-        nodata: words::half_of(state, 0, 13),
-        rows: words::half_of(state, 0, 14),
-        digest: words::word_of(state, 0, 15),
-        tallies: tallies_at(state, 16),
-    }
-}
-
-fn grid_at(state: &[u64], at: usize) -> Grid {
-    Grid {
-        width: words::half_of(state, at, 0),
-        height: words::half_of(state, at, 1),
-        lat: float::from_bits(words::word_of(state, at, 2)),
-        lon: float::from_bits(words::word_of(state, at, 3)),
-        lon_step: float::from_bits(words::word_of(state, at, 4)),
-        lat_step: float::from_bits(words::word_of(state, at, 5)),
-    }
-}
-
-fn tallies_at(state: &[u64], at: usize) -> CellTallies {
-    CellTallies {
-        nodata: words::word_of(state, at, 0),
-        negative: words::word_of(state, at, 1),
-        zero: words::word_of(state, at, 2),
-        populated: words::word_of(state, at, 3),
-    }
-}
-
-fn store(state: &mut [u64], b: Builder) {
-    store_grids(state, b);
-    store_rest(state, b);
-}
-
-fn store_grids(state: &mut [u64], b: Builder) {
-    let source = b.source;
-    store_grid(state, 0, source);
-    let coarse = b.coarse;
-    store_grid(state, 6, coarse);
-}
-
-fn store_rest(state: &mut [u64], b: Builder) {
-    store_four(
-        state,
-        12,
-        b.factor as u64,
-        b.nodata as u64,
-        b.rows as u64,
-        b.digest,
-    );
-    let t = b.tallies;
-    store_four(state, 16, t.nodata, t.negative, t.zero, t.populated);
-}
-
-fn store_grid(state: &mut [u64], at: usize, g: Grid) {
-    words::set(state, at, 0, g.width as u64);
-    words::set(state, at, 1, g.height as u64);
-    let lat = float::to_bits(g.lat);
-    let lon = float::to_bits(g.lon);
-    store_four(
-        state,
-        words::plus(at, 2),
-        lat,
-        lon,
-        float::to_bits(g.lon_step),
-        float::to_bits(g.lat_step),
-    );
-}
-
-fn store_four(state: &mut [u64], at: usize, first: u64, second: u64, third: u64, fourth: u64) {
-    words::set(state, at, 0, first);
-    words::set(state, at, 1, second);
-    words::set(state, at, 2, third);
-    words::set(state, at, 3, fourth);
-}
-
-// A session's first builder: the grid at factor 1, and zeros.
-fn begin(state: &mut [u64], g: Grid) {
-    let tallies = CellTallies {
-        nodata: 0,
-        negative: 0,
-        zero: 0,
-        populated: 0,
+fn builder(out: &[u64]) -> Builder {
+    let words = from(out, BUILDER);
+    let source = grid_at(words, 0);
+    let grid = grid_at(words, 6);
+    let decimation = Decimation {
+        factor: half(words, 12),
+        source,
+        grid,
     };
-    store(
-        state,
-        Builder {
-            source: g,
-            coarse: g,
-            factor: 1,
-            nodata: 0,
-            rows: 0,
-            digest: 0,
-            tallies,
-        },
-    );
+    let tallies = CellTallies {
+        nodata: word(words, 16),
+        negative: word(words, 17),
+        zero: word(words, 18),
+        populated: word(words, 19),
+    };
+    Builder {
+        decimation,
+        nodata: half(words, 13),
+        rows: half(words, 14),
+        digest: word(words, 15),
+        tallies,
+    }
+}
+
+fn put_builder(out: &mut Words, at: usize, b: Builder) -> usize {
+    let d = b.decimation;
+    let numbers = [d.factor as u64, b.nodata as u64, b.rows as u64, b.digest];
+    let tallies = tally_words(b.tallies);
+    let numbers_at = put_grids(out, at, d);
+    let tallies_at = put_all(out, numbers_at, &numbers);
+    put_all(out, tallies_at, &tallies)
+}
+
+fn put_built(out: &mut Words, at: usize, t: BuiltTable) -> usize {
+    let d = t.decimation;
+    let tallies = tally_words(t.tallies);
+    let numbers = [float::to_bits(t.total), d.factor as u64];
+    let digest_at = put(out, at, 0);
+    let tallies_at = put(out, digest_at, t.digest);
+    let numbers_at = put_all(out, tallies_at, &tallies);
+    let grids_at = put_all(out, numbers_at, &numbers);
+    put_grids(out, grids_at, d)
+}
+
+fn put_grids(out: &mut Words, at: usize, d: Decimation) -> usize {
+    let source = grid_words(d.source);
+    let coarse = grid_words(d.grid);
+    let coarse_at = put_all(out, at, &source);
+    put_all(out, coarse_at, &coarse)
 }
 
 // ---- operations
 
-// Each takes a word at least, so there are no more than words.
+// Each takes a word at least. One without all of its words is not done, and is the last.
 fn operations(
-    output: &mut [u8],
     list: &[u64],
-    state: &mut [u64],
-    row: &mut [u32],
+    out: &mut Words,
     acc: &mut [f64],
     corr: &mut [f64],
     coarse: &mut [f64],
     table: &mut [f64],
-    p: Place,
-) -> Place {
-    let mut step = Step { at: 0, place: p };
+) -> usize {
+    let mut end = 0;
+    let mut at = 0;
     let mut left = list.len();
     while 0 < left {
-        step = operate(output, list, state, row, acc, corr, coarse, table, step);
+        let operation = from(list, at);
+        let n = operation_size(operation);
+        if operation.len() < n {
+            break;
+        }
+        end = operate(operation, out, end, acc, corr, coarse, table);
+        at = plus(at, n);
         left -= 1;
     }
-    step.place
+    end
 }
 
-// The next operation, or nothing after the last.
+fn operation_size(operation: &[u64]) -> usize {
+    match word(operation, 0) {
+        0 | 3 => 3,
+        1 => list_end(operation, 1),
+        _ => 1,
+    }
+}
+
 fn operate(
-    output: &mut [u8],
-    list: &[u64],
-    state: &mut [u64],
-    row: &mut [u32],
+    operation: &[u64],
+    out: &mut Words,
+    end: usize,
     acc: &mut [f64],
     corr: &mut [f64],
     coarse: &mut [f64],
     table: &mut [f64],
-    step: Step,
-) -> Step {
-    let at = step.at;
-    if list.len() <= at {
-        return step;
-    }
-    match list[at] {
-        0 => start(output, list, state, acc, corr, coarse, table, step),
-        1 => row_call(output, list, state, row, acc, corr, coarse, table, step),
-        2 => finish(output, state, acc, corr, coarse, table, step),
-        3 => alter(list, state, step),
-        _ => unknown(output, step),
-    }
-}
-
-// Where the session goes on after n words of this operation.
-fn after(step: Step, n: usize, place: Place) -> Step {
-    Step {
-        at: words::plus(step.at, n),
-        place,
-    }
-}
-
-// An operation without all of its words is the last, and is not done.
-fn ended(list: &[u64], step: Step) -> Step {
-    let mut last = step;
-    last.at = list.len();
-    last
-}
-
-fn unknown(output: &mut [u8], step: Step) -> Step {
-    let place = words::put(output, step.place, words::UNKNOWN);
-    after(step, 1, place)
-}
-
-// A factor and a nodata mark. The grid is the builder's.
-fn start(
-    output: &mut [u8],
-    list: &[u64],
-    state: &mut [u64],
-    acc: &mut [f64],
-    corr: &mut [f64],
-    coarse: &mut [f64],
-    table: &mut [f64],
-    step: Step,
-) -> Step {
-    let at = step.at;
-    if !words::has(list, at, 3) {
-        return ended(list, step);
-    }
-    let factor = words::half_of(list, at, 1);
-    let nodata = words::half_of(list, at, 2);
-    let answer = Builder::start(grid_at(state, 0), factor, nodata, acc, corr, coarse, table);
-    let place = answered(output, state, step.place, answer);
-    after(step, 3, place)
-}
-
-// 0 and the builder that was given, or the refusal's number and the builder as it was.
-fn answered(output: &mut [u8], state: &mut [u64], p: Place, answer: BuilderAnswer) -> Place {
-    match answer {
-        BuilderAnswer::Refused(n) => words::put_half(output, p, n),
-        BuilderAnswer::Accepted(b) => {
-            store(state, b);
-            words::put(output, p, 0)
+) -> usize {
+    match word(operation, 0) {
+        0 => {
+            let factor = half(operation, 1);
+            let nodata = half(operation, 2);
+            let source = grid_at(out, BUILDER);
+            let answer = Builder::start(source, factor, nodata, acc, corr, coarse, table);
+            answered(out, end, answer)
         }
+        1 => row(operation, out, end, acc, corr, coarse, table),
+        2 => {
+            let answer = builder(out).finish(acc, corr, coarse, table);
+            finished(out, end, answer)
+        }
+        3 => alter(operation, out, end),
+        _ => put(out, end, 0xffff_ffff_ffff_ffff),
     }
-}
-
-// A row's length and the row.
-fn row_call(
-    output: &mut [u8],
-    list: &[u64],
-    state: &mut [u64],
-    row: &mut [u32],
-    acc: &mut [f64],
-    corr: &mut [f64],
-    coarse: &mut [f64],
-    table: &mut [f64],
-    step: Step,
-) -> Step {
-    let at = step.at;
-    let n = words::word_of(list, at, 1) as usize;
-    let from = words::plus(at, 2);
-    if !(words::has(list, at, 2) & words::has(list, from, n)) {
-        return ended(list, step);
-    }
-    if n <= row.len() {
-        let p = step.place;
-        let q = with_row(
-            output,
-            list,
-            state,
-            &mut row[..n],
-            acc,
-            corr,
-            coarse,
-            table,
-            from,
-            p,
-        );
-        return after(step, words::plus(n, 2), q);
-    }
-    ended(list, step)
 }
 
 // The row as it is left follows the answer.
-fn with_row(
-    output: &mut [u8],
-    list: &[u64],
-    state: &mut [u64],
-    row: &mut [u32],
+fn row(
+    operation: &[u64],
+    out: &mut Words,
+    end: usize,
     acc: &mut [f64],
     corr: &mut [f64],
     coarse: &mut [f64],
     table: &mut [f64],
-    from: usize,
-    p: Place,
-) -> Place {
-    words::copy_row(row, list, from);
-    let q = build_row(output, state, row, acc, corr, coarse, table, p);
-    words::put_row(output, q, row)
+) -> usize {
+    let cells = list(operation, 1);
+    let mut space = row_space();
+    let row = load_row(&mut space, cells.len(), cells, 0);
+    let answer = builder(out).row(row, acc, corr, coarse, table);
+    let row_at = answered(out, end, answer);
+    put_row(out, row_at, row)
 }
 
-fn build_row(
-    output: &mut [u8],
-    state: &mut [u64],
-    row: &mut [u32],
-    acc: &mut [f64],
-    corr: &mut [f64],
-    coarse: &mut [f64],
-    table: &mut [f64],
-    p: Place,
-) -> Place {
-    let b = builder_of(state);
-    let answer = b.row(row, acc, corr, coarse, table);
-    answered(output, state, p, answer)
-}
-
-fn finish(
-    output: &mut [u8],
-    state: &[u64],
-    acc: &[f64],
-    corr: &[f64],
-    coarse: &[f64],
-    table: &[f64],
-    step: Step,
-) -> Step {
-    let b = builder_of(state);
-    let answer = b.finish(acc, corr, coarse, table);
-    let place = put_finish(output, step.place, answer);
-    after(step, 1, place)
-}
-
-fn put_finish(output: &mut [u8], p: Place, answer: FinishAnswer) -> Place {
+// 0 and the builder that was given, or the refusal's number and the builder as it was.
+fn answered(out: &mut Words, end: usize, answer: BuilderAnswer) -> usize {
     match answer {
-        FinishAnswer::Refused(n) => words::put_half(output, p, n),
-        FinishAnswer::Finished(t) => {
-            let q = words::put(output, p, 0);
-            put_built(output, q, t)
+        BuilderAnswer::Refused(n) => put_half(out, end, n),
+        BuilderAnswer::Accepted(b) => {
+            put_builder(out, BUILDER, b);
+            put(out, end, 0)
         }
     }
 }
 
-fn put_built(output: &mut [u8], p: Place, t: BuiltTable) -> Place {
-    let q = words::put(output, p, t.digest);
-    let tallies = t.tallies;
-    let r = raster_calls::put_tallies(output, q, tallies);
-    let s = words::put_float(output, r, t.total);
-    let d = t.decimation;
-    put_decimation(output, s, d)
-}
-
-fn put_decimation(output: &mut [u8], p: Place, d: Decimation) -> Place {
-    let q = words::put_half(output, p, d.factor);
-    let source = d.source;
-    let r = grid_calls::put_grid(output, q, source);
-    let grid = d.grid;
-    grid_calls::put_grid(output, r, grid)
-}
-
-fn put_builder(output: &mut [u8], p: Place, b: Builder) -> Place {
-    let source = b.source;
-    let q = grid_calls::put_grid(output, p, source);
-    let coarse = b.coarse;
-    let r = grid_calls::put_grid(output, q, coarse);
-    put_state(output, r, b)
-}
-
-fn put_state(output: &mut [u8], p: Place, b: Builder) -> Place {
-    let q = words::put_pair(output, p, b.factor as u64, b.nodata as u64);
-    let r = words::put_pair(output, q, b.rows as u64, b.digest);
-    let tallies = b.tallies;
-    raster_calls::put_tallies(output, r, tallies)
+fn finished(out: &mut Words, end: usize, answer: FinishAnswer) -> usize {
+    match answer {
+        FinishAnswer::Refused(n) => put_half(out, end, n),
+        FinishAnswer::Finished(t) => put_built(out, end, t),
+    }
 }
 
 // A field's number and its word: the builder becomes one that its maker may not give.
-fn alter(list: &[u64], state: &mut [u64], step: Step) -> Step {
-    let at = step.at;
-    if !words::has(list, at, 3) {
-        return ended(list, step);
-    }
-    set_field(
-        state,
-        words::word_of(list, at, 1),
-        words::word_of(list, at, 2),
-    );
-    after(step, 3, step.place)
-}
-
-fn set_field(state: &mut [u64], field: u64, word: u64) {
+fn alter(operation: &[u64], out: &mut Words, end: usize) -> usize {
+    let field = word(operation, 1);
     if field < 20 {
-        words::set(state, field as usize, 0, word);
+        put(out, BUILDER + field as usize, word(operation, 2));
     }
+    end
 }

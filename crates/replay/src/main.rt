@@ -1,11 +1,11 @@
-// Answers a list of calls. Each call is a line of words on standard input: its number, then its arguments; each answer
-// is a line of words on standard output. reference/README.md has the table of calls.
+// Answers a list of calls, a line of words each: a call's number and its arguments on standard input, its answer on
+// standard output. reference/README.md has the table of calls.
 //
-// A module of calls on a few numbers is two functions: how many arguments a call takes, and its answer. A call that
-// takes or gives more reads its words and puts its answer itself, as `digest_calls::row` does: all of its words first,
-// so that nothing is put for one that is cut short.
+// A call is a function from its words to those of its answer, and each crate has a module of them. `calls` knows how
+// many words a call takes, and `text` alone meets bytes.
 mod answers;
 mod build_calls;
+mod calls;
 mod circle_calls;
 mod digest_calls;
 mod float_calls;
@@ -13,166 +13,60 @@ mod geodesy_calls;
 mod grid_calls;
 mod kernel_calls;
 mod raster_calls;
-mod rectangle_calls;
+mod table_calls;
+mod text;
 mod words;
 
-ghost use Prim.Native.Nat.{_<_};
-use answers::Arguments;
-use words::Answer;
-use words::Place;
-use words::Taken;
+use answers::put_all;
+use words::*;
 
 fn main() {
-    let mut input = words::buffer();
-    let mut output = words::buffer();
-    let mut list = words::list();
-    let mut state = words::state();
-    let mut row = words::row();
-    let mut acc = words::cells();
-    let mut corr = words::cells();
-    let mut coarse = words::cells();
-    let mut table = words::cells();
-    run(
-        &mut input,
-        &mut output,
-        &mut list,
-        &mut state,
-        &mut row,
-        &mut acc,
-        &mut corr,
-        &mut coarse,
-        &mut table,
-    );
+    let mut words = [0; LENGTH];
+    let mut answer = [0; LENGTH];
+    run(&mut words, &mut answer);
 }
 
-fn run(
-    input: &mut [u8],
-    output: &mut [u8],
-    list: &mut [u64],
-    state: &mut [u64],
-    row: &mut [u32],
-    acc: &mut [f64],
-    corr: &mut [f64],
-    coarse: &mut [f64],
-    table: &mut [f64],
-) {
-    let mut place = words::start();
-    // A bound on the calls, so that the program ends on an input without end.
+fn run(words: &mut Words, answer: &mut Words) {
+    // How many words there are of a call that is not yet whole. They stand at the front.
+    let mut kept = 0;
+    // A bound on the reads, so that the program ends on an input without end.
     let mut budget: u64 = 0x100_0000_0000;
     while 0 < budget {
-        place = next_call(
-            input,
-            output,
-            list,
-            state,
-            row,
-            acc,
-            corr,
-            coarse,
-            table,
-            place,
-        );
-        budget = left(budget, place.over);
-    }
-    words::flush(output, place);
-}
-
-// One turn less, and none once the input is over.
-fn left(budget: u64, over: bool) -> u64
-    requires { ⌜ 0 < budget ⌝ }
-    ensures { λ r. ⌜ r < budget ⌝ }
-{
-    if over { 0 } else { budget - 1 }
-}
-
-fn next_call(
-    input: &mut [u8],
-    output: &mut [u8],
-    list: &mut [u64],
-    state: &mut [u64],
-    row: &mut [u32],
-    acc: &mut [f64],
-    corr: &mut [f64],
-    coarse: &mut [f64],
-    table: &mut [f64],
-    p: Place,
-) -> Place {
-    let call = words::take(input, p);
-    let place = call.place;
-    if place.over {
-        return place;
-    }
-    let number = call.word;
-    match number {
-        0x50 => build_calls::call(
-            input,
-            output,
-            list,
-            state,
-            row,
-            acc,
-            corr,
-            coarse,
-            table,
-            place,
-        ),
-        0x60..=0x62 => rectangle_calls::call(input, output, list, table, number, place),
-        0x80 => circle_calls::call(input, output, list, row, table, place),
-        _ => small_call(input, output, row, number, place),
-    }
-}
-
-// A call that takes no table.
-fn small_call(input: &mut [u8], output: &mut [u8], row: &mut [u32], call: u64, p: Place) -> Place {
-    match call {
-        digest_calls::ROW => digest_calls::row(input, output, row, p),
-        0x30..=0x3c => grid_calls::call(input, output, call, p),
-        0x40 => raster_calls::call(input, output, row, p),
-        0x70 => kernel_calls::call(input, output, row, p),
-        _ => {
-            let a = arguments(input, p, arity(call));
-            words::write_line(output, a.place, answer(call, a))
+        let end = text::read_words(words, kept);
+        if end == kept {
+            break;
         }
+        let done = answer_all(front(words, end), answer);
+        kept = keep(words, done, end, answer);
+        budget -= 1;
     }
 }
 
-fn arity(call: u64) -> u64 {
-    match call {
-        0x00..=0x0f => float_calls::arity(call),
-        0x10..=0x1f => digest_calls::arity(call),
-        0x20..=0x2f => geodesy_calls::arity(call),
-        _ => 0,
+// Answers the calls that are whole; how many words they have.
+fn answer_all(words: &[u64], answer: &mut Words) -> usize {
+    let mut output = io::large_buffer();
+    let mut waiting = 0;
+    let mut at = 0;
+    // Each call takes a word at least.
+    let mut left = words.len();
+    while 0 < left {
+        let call = from(words, at);
+        let size = calls::size(call);
+        let n = size % calls::UNKNOWN;
+        if call.len() < n {
+            break;
+        }
+        let count = calls::answer(call, size, answer);
+        waiting = text::write_line(&mut output, waiting, front(answer, count));
+        at = plus(at, n);
+        left -= 1;
     }
+    text::flush(&output, waiting);
+    at
 }
 
-fn answer(call: u64, a: Arguments) -> Answer {
-    match call {
-        0x00..=0x0f => float_calls::answer(call, a),
-        0x10..=0x1f => digest_calls::answer(call, a),
-        0x20..=0x2f => geodesy_calls::answer(call, a),
-        _ => answers::unknown(),
-    }
-}
-
-// The first `count` arguments; the others are 0.
-fn arguments(input: &mut [u8], p: Place, count: u64) -> Arguments {
-    let first = take_if(0 < count, input, p);
-    let second = take_if(1 < count, input, first.place);
-    let third = take_if(2 < count, input, second.place);
-    let fourth = take_if(3 < count, input, third.place);
-    let place = fourth.place;
-    Arguments {
-        first: first.word,
-        second: second.word,
-        third: third.word,
-        fourth: fourth.word,
-        place,
-    }
-}
-
-fn take_if(wanted: bool, input: &mut [u8], p: Place) -> Taken {
-    if wanted {
-        return words::take(input, p);
-    }
-    Taken { word: 0, place: p }
+// The words from `at` to `end` go to the front, by way of a space; how many they are.
+fn keep(words: &mut Words, at: usize, end: usize, space: &mut Words) -> usize {
+    let n = put_all(space, 0, from(front(words, end), at));
+    put_all(words, 0, front(space, n))
 }

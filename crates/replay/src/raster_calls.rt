@@ -1,32 +1,17 @@
 // Call 40: `raster`.
-use crate::answers;
-use crate::words;
-use crate::words::Place;
+use crate::answers::*;
+use crate::words::*;
 use raster::CellTallies;
 
-pub fn put_tallies(output: &mut [u8], p: Place, t: CellTallies) -> Place {
-    let nodata = words::put(output, p, t.nodata);
-    let negative = words::put(output, nodata, t.negative);
-    let zero = words::put(output, negative, t.zero);
-    words::put(output, zero, t.populated)
+pub fn row(call: &[u64], out: &mut Words) -> usize {
+    let cells = list(call, 2);
+    let mut space = row_space();
+    let row = load_row(&mut space, cells.len(), cells, 0);
+    let tallies = tally_words(raster::sanitise_row(row, half(call, 1)));
+    let end = put_all(out, 0, &tallies);
+    put_row(out, end, row)
 }
 
-// The mark, the row's length, the row.
-pub fn call(input: &mut [u8], output: &mut [u8], row: &mut [u32], p: Place) -> Place {
-    let nodata = words::take(input, p);
-    let count = words::take(input, nodata.place);
-    let n = count.word as usize;
-    let place = count.place;
-    if n <= row.len() {
-        return sanitise(input, output, &mut row[..n], nodata.word, place);
-    }
-    words::write_line(output, place, answers::unknown())
-}
-
-fn sanitise(input: &mut [u8], output: &mut [u8], row: &mut [u32], nodata: u64, p: Place) -> Place {
-    let q = words::take_row(input, row, p);
-    let tallies = raster::sanitise_row(row, words::low_half(nodata));
-    let r = put_tallies(output, q, tallies);
-    let s = words::put_row(output, r, row);
-    words::end_line(output, s)
+pub fn tally_words(t: CellTallies) -> [u64; 4] {
+    [t.nodata, t.negative, t.zero, t.populated]
 }

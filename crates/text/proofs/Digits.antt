@@ -43,9 +43,9 @@ short (suc k) n false e h =
     let r : length (decimal (n / 10)) ≤ suc k = short k (n / 10) (ltb (n / 10) 10) refl s in
     rw (decimal-more n (ltb-false _ _ e), length-append (decimal (n / 10))) (omega arith)
 
--- a u64 has at most 20 digits
-pub decimal-length : (n : ℕ) → n < 2 ^ 64 → length (decimal n) ≤ 20
-decimal-length n h = short 19 n (ltb n 10) refl (omega arith)
+-- a number below 10 ^ k has at most k digits, or one
+pub decimal-length : (k n : ℕ) → n < 10 ^ suc k → length (decimal n) ≤ suc k
+decimal-length k n h = short k n (ltb n 10) refl h
 
 pub hex-length : (k n : ℕ) → length (hexDigits k n) ≡ k
 hex-length zero n = refl

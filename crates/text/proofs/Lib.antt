@@ -2,5 +2,5 @@
 mod Counts
 mod Digits
 pub mod Laying
-pub mod Written
+pub mod Lengths
 pub mod Examples

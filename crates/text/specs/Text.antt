@@ -3,7 +3,6 @@ use mathlib.Core.Bool.{Bool, true, false, cond, _&&_}
 use mathlib.Core.List.{List, [], _∷_, _++_}
 use Prim.Native.Nat.{ℕ, zero, suc, _+_, _/_, _%_}
 use lib.Dec.{ltb}
-use lib.ListN.{length, take, drop}
 use lib.Ieee.{Float, binary64, rem, le, eq, ofBits, toBits, toUnsigned}
 use Rattle.float.specs.Float.{f64zero, f64one}
 use Rattle.raster.specs.declared.CellTallies.{CellTallies}
@@ -101,8 +100,3 @@ circleLine i people = circleWord ++ decimal i ++ space ++ shown people ++ newlin
 
 unfoldable pub circleRefusedLine : ℕ → ℕ → List ℕ
 circleRefusedLine i n = circleWord ++ decimal i ++ space ++ refusedLine n
-
--- ---- a text written over the front of a lent buffer: what does not fit is dropped, and what lies behind it keeps its values
-
-unfoldable pub writtenOver : List ℕ → List ℕ → List ℕ
-writtenOver text out = take (length out) (text ++ drop (length text) out)

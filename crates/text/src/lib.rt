@@ -1,11 +1,9 @@
-// The lines that `count` prints (document 01). A line goes over the front of a lent slice of any length: what does not fit is
-// dropped, and the answer is the whole line's length.
+// The lines that `count` prints (document 01). A line is laid over a lent slice of any length from any offset on: what does not
+// fit is dropped, and the answer is the offset behind the whole line.
 mod put;
 
-ghost use mathlib.Core.Path.{_≡_};
-ghost use Prim.Native.Nat.{_≤_};
-ghost use lib.ListN.{length};
-ghost use Rattle.text.specs.Text.{refusedLine, rowsLine, cellsLine, totalLine, circleLine, circleRefusedLine, writtenOver};
+ghost use Rattle.text.specs.Text.{refusedLine, rowsLine, cellsLine, totalLine, circleLine, circleRefusedLine};
+ghost use Rattle.text.specs.Laid.{Laid};
 use put::NEWLINE;
 use put::SPACE;
 use put::put_bytes;
@@ -15,52 +13,46 @@ use put::put_refused;
 use put::put_shown;
 use raster::CellTallies;
 
-pub fn refused_line(out: &mut [u8], n: u32) -> usize
-    ensures { λ r. ⌜ (r ≡ length (refusedLine n))
-        × (now (out .exit) ≡ writtenOver (refusedLine n) (now (out .entry))) × (r ≤ 90) ⌝ }
+pub fn refused_line(out: &mut [u8], at: usize, n: u32) -> usize
+    ensures { λ r. ⌜ Laid (now (out .entry)) at (refusedLine n) (now (out .exit)) r ⌝ }
 {
-    put_refused(out, 0, n)
+    put_refused(out, at, n)
 }
 
-pub fn rows_line(out: &mut [u8], height: u32) -> usize
-    ensures { λ r. ⌜ (r ≡ length (rowsLine height))
-        × (now (out .exit) ≡ writtenOver (rowsLine height) (now (out .entry))) × (r ≤ 90) ⌝ }
+pub fn rows_line(out: &mut [u8], at: usize, height: u32) -> usize
+    ensures { λ r. ⌜ Laid (now (out .entry)) at (rowsLine height) (now (out .exit)) r ⌝ }
 {
-    let a = put_bytes(out, 0, b"rows ");
+    let a = put_bytes(out, at, b"rows ");
     put_number(out, a, height as u64, NEWLINE)
 }
 
-pub fn cells_line(out: &mut [u8], t: CellTallies) -> usize
-    ensures { λ r. ⌜ (r ≡ length (cellsLine t))
-        × (now (out .exit) ≡ writtenOver (cellsLine t) (now (out .entry))) × (r ≤ 90) ⌝ }
+pub fn cells_line(out: &mut [u8], at: usize, t: CellTallies) -> usize
+    ensures { λ r. ⌜ Laid (now (out .entry)) at (cellsLine t) (now (out .exit)) r ⌝ }
 {
-    let a = put_bytes(out, 0, b"cells ");
+    let a = put_bytes(out, at, b"cells ");
     let b = put_number(out, a, t.nodata, SPACE);
     let c = put_number(out, b, t.negative, SPACE);
     let d = put_number(out, c, t.zero, SPACE);
     put_number(out, d, t.populated, NEWLINE)
 }
 
-pub fn total_line(out: &mut [u8], total: f64) -> usize
-    ensures { λ r. ⌜ (r ≡ length (totalLine total))
-        × (now (out .exit) ≡ writtenOver (totalLine total) (now (out .entry))) × (r ≤ 90) ⌝ }
+pub fn total_line(out: &mut [u8], at: usize, total: f64) -> usize
+    ensures { λ r. ⌜ Laid (now (out .entry)) at (totalLine total) (now (out .exit)) r ⌝ }
 {
-    let a = put_bytes(out, 0, b"total ");
+    let a = put_bytes(out, at, b"total ");
     put_shown(out, a, total)
 }
 
-pub fn circle_line(out: &mut [u8], i: u32, people: f64) -> usize
-    ensures { λ r. ⌜ (r ≡ length (circleLine i people))
-        × (now (out .exit) ≡ writtenOver (circleLine i people) (now (out .entry))) × (r ≤ 60) ⌝ }
+pub fn circle_line(out: &mut [u8], at: usize, i: u32, people: f64) -> usize
+    ensures { λ r. ⌜ Laid (now (out .entry)) at (circleLine i people) (now (out .exit)) r ⌝ }
 {
-    let a = put_circle(out, i);
+    let a = put_circle(out, at, i);
     put_shown(out, a, people)
 }
 
-pub fn circle_refused_line(out: &mut [u8], i: u32, n: u32) -> usize
-    ensures { λ r. ⌜ (r ≡ length (circleRefusedLine i n))
-        × (now (out .exit) ≡ writtenOver (circleRefusedLine i n) (now (out .entry))) × (r ≤ 60) ⌝ }
+pub fn circle_refused_line(out: &mut [u8], at: usize, i: u32, n: u32) -> usize
+    ensures { λ r. ⌜ Laid (now (out .entry)) at (circleRefusedLine i n) (now (out .exit)) r ⌝ }
 {
-    let a = put_circle(out, i);
+    let a = put_circle(out, at, i);
     put_refused(out, a, n)
 }

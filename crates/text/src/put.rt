@@ -1,10 +1,9 @@
 // Parts of a line, laid over a slice from an offset on. What lies past the slice's end is dropped; the answer is the offset
-// behind the part all the same.
+// behind the part all the same, or the last offset that there is.
 ghost use mathlib.Core.Path.{_≡_};
 ghost use mathlib.Core.Bool.{true};
 ghost use mathlib.Core.List.{[], _∷_, _++_};
-ghost use Prim.Native.Nat.{_+_, _<_, _≤_};
-ghost use lib.ListN.{length};
+ghost use Prim.Native.Nat.{_+_, _<_, min};
 ghost use lib.Ieee.{toUnsigned};
 ghost use Rattle.text.specs.Text.{decimal, hexDigit, hexDigits, isCount, shown, space, newline, bitsWord, circleWord, refusedLine};
 ghost use Rattle.text.specs.Laid.{Laid};
@@ -13,19 +12,26 @@ pub(crate) const SPACE: u8 = 32;
 
 pub(crate) const NEWLINE: u8 = 10;
 
+const LAST: usize = 18446744073709551615;
+
+// The offset behind a byte.
+fn next(at: usize) -> usize
+    ensures { λ r. ⌜ r ≡ min (at + 1) 18446744073709551615 ⌝ }
+{
+    if at < LAST { at + 1 } else { LAST }
+}
+
 fn put_byte(out: &mut [u8], at: usize, b: u8) -> usize
-    requires { ⌜ at < 4096 ⌝ }
     ensures { λ r. ⌜ Laid (now (out .entry)) at (b ∷ []) (now (out .exit)) r ⌝ }
 {
     if at < out.len() {
         out[at] = b;
-        return at + 1;
+        return next(at);
     }
-    at + 1
+    next(at)
 }
 
 pub(crate) fn put_bytes(out: &mut [u8], at: usize, text: &[u8]) -> usize
-    requires { ⌜ (at < 2048) × (length (now text) ≤ 64) ⌝ }
     ensures { λ r. ⌜ Laid (now (out .entry)) at (now (text .entry)) (now (out .exit)) r ⌝ }
 {
     let mut next = at;
@@ -53,9 +59,7 @@ fn hex_digit(d: u64) -> u8
 
 // The most significant digit first, and never a `0` in front of another.
 fn put_decimal(out: &mut [u8], at: usize, n: u64) -> usize
-    requires { ⌜ at < 2048 ⌝ }
     ensures { λ r. ⌜ Laid (now (out .entry)) at (decimal n) (now (out .exit)) r ⌝ }
-    ensures { λ _. ⌜ length (decimal n) ≤ 20 ⌝ }
 {
     if n < 10 {
         return put_byte(out, at, digit(n));
@@ -66,7 +70,6 @@ fn put_decimal(out: &mut [u8], at: usize, n: u64) -> usize
 
 // The last k hex digits.
 fn put_hex(out: &mut [u8], at: usize, k: usize, n: u64) -> usize
-    requires { ⌜ (at < 2048) × (k ≤ 16) ⌝ }
     ensures { λ r. ⌜ Laid (now (out .entry)) at (hexDigits k n) (now (out .exit)) r ⌝ }
 {
     if k == 0 {
@@ -78,9 +81,7 @@ fn put_hex(out: &mut [u8], at: usize, k: usize, n: u64) -> usize
 
 // A number and a byte after it.
 pub(crate) fn put_number(out: &mut [u8], at: usize, n: u64, after: u8) -> usize
-    requires { ⌜ at < 1024 ⌝ }
     ensures { λ r. ⌜ Laid (now (out .entry)) at (decimal n ++ (after ∷ [])) (now (out .exit)) r ⌝ }
-    ensures { λ r. ⌜ r ≤ at + 21 ⌝ }
 {
     let a = put_decimal(out, at, n);
     put_byte(out, a, after)
@@ -103,9 +104,7 @@ fn whole(x: f64) -> u64
 
 // `bits` and 16 hex digits, and a newline.
 fn put_bits(out: &mut [u8], at: usize, n: u64) -> usize
-    requires { ⌜ at < 512 ⌝ }
     ensures { λ r. ⌜ Laid (now (out .entry)) at ((bitsWord ++ hexDigits 16 n) ++ newline) (now (out .exit)) r ⌝ }
-    ensures { λ r. ⌜ r ≤ at + 22 ⌝ }
 {
     let a = put_bytes(out, at, b"bits ");
     let b = put_hex(out, a, 16, n);
@@ -114,9 +113,7 @@ fn put_bits(out: &mut [u8], at: usize, n: u64) -> usize
 
 // A count in decimal, every other number by its bits; and a newline.
 pub(crate) fn put_shown(out: &mut [u8], at: usize, x: f64) -> usize
-    requires { ⌜ at < 512 ⌝ }
     ensures { λ r. ⌜ Laid (now (out .entry)) at (shown x ++ newline) (now (out .exit)) r ⌝ }
-    ensures { λ r. ⌜ r ≤ at + 22 ⌝ }
 {
     if is_count(x) {
         return put_number(out, at, whole(x), NEWLINE);
@@ -126,19 +123,16 @@ pub(crate) fn put_shown(out: &mut [u8], at: usize, x: f64) -> usize
 
 // `refused n` and a newline.
 pub(crate) fn put_refused(out: &mut [u8], at: usize, n: u32) -> usize
-    requires { ⌜ at < 512 ⌝ }
     ensures { λ r. ⌜ Laid (now (out .entry)) at (refusedLine n) (now (out .exit)) r ⌝ }
-    ensures { λ r. ⌜ r ≤ at + 29 ⌝ }
 {
     let a = put_bytes(out, at, b"refused ");
     put_number(out, a, n as u64, NEWLINE)
 }
 
-// `circle`, the index and a space, at the front.
-pub(crate) fn put_circle(out: &mut [u8], i: u32) -> usize
-    ensures { λ r. ⌜ Laid (now (out .entry)) 0 (circleWord ++ decimal i ++ space) (now (out .exit)) r ⌝ }
-    ensures { λ r. ⌜ r ≤ 28 ⌝ }
+// `circle`, the index and a space.
+pub(crate) fn put_circle(out: &mut [u8], at: usize, i: u32) -> usize
+    ensures { λ r. ⌜ Laid (now (out .entry)) at (circleWord ++ decimal i ++ space) (now (out .exit)) r ⌝ }
 {
-    let a = put_bytes(out, 0, b"circle ");
+    let a = put_bytes(out, at, b"circle ");
     put_number(out, a, i as u64, SPACE)
 }

@@ -1,8 +1,6 @@
 -- `text::cells_line` meets its contract.
 -- Assumes nothing.
-use native.Mathlib.Omega.{arith}
 use Rattle.text.proofs.Laying.{laid-parts}
-use Rattle.text.proofs.Written.{laid-front}
 use Rattle.text.specs.Text.{decimal, space, newline, cellsLine}
 use borrow.Author.Needs.{needs}
 use Rattle.text.proofs.cells_line.Statement.{statement}
@@ -11,20 +9,15 @@ use Rattle.text.proofs.cells_line.Tie as tie
 returns : tie.Need-returns
 unfolding cellsLine
 returns c =
-    let word = c .before .before .before .before .before .before .before .before .before .before .before .before .before .before .before .before .before .before .put-bytes .ensures in
-    let p = c .before .before .before .before .before .before .before .before .before .before .before .before .before .before .put-number .ensures in
-    let q = c .before .before .before .before .before .before .before .before .before .before .put-number2 .ensures in
-    let r = c .before .before .before .before .before .before .put-number3 .ensures in
-    let s = c .before .before .put-number4 .ensures in
-    let t = c .before .before .before .before .before .before .before .before .before .before .before .before .before .before .before .before .before .before .before .before .before .before .args .t in
-    let line =
+    let zero = c .before .before .before .before .before .before in
+    let negative = zero .before .before .before .before in
+    let nodata = negative .before .before .before .before in
+    let word = nodata .before .before .before .before in
+    let t = word .before .before .before .before .args .t in
     laid-parts (decimal (t .populated)) newline
     (laid-parts (decimal (t .zero)) space
     (laid-parts (decimal (t .negative)) space
-    (laid-parts (decimal (t .nodata)) space word (p .0)) (q .0)) (r .0)) (s .0)
-    in
-    let (n, e) = laid-front line in
-    (n, e, omega (arith, word .next, p .1, q .1, r .1, s .1))
+    (laid-parts (decimal (t .nodata)) space (word .put-bytes .ensures) (nodata .put-number .ensures)) (negative .put-number2 .ensures)) (zero .put-number3 .ensures)) (c .before .before .put-number4 .ensures)
 
 pub cells-line-spec : {M : Type 1} → statement M
 cells-line-spec =

@@ -1,8 +1,6 @@
 -- `text::circle_refused_line` meets its contract.
 -- Assumes nothing.
-use native.Mathlib.Omega.{arith}
 use Rattle.text.proofs.Laying.{laid-then}
-use Rattle.text.proofs.Written.{laid-front}
 use Rattle.text.specs.Text.{circleRefusedLine}
 use borrow.Author.Needs.{needs}
 use Rattle.text.proofs.circle_refused_line.Statement.{statement}
@@ -10,10 +8,7 @@ use Rattle.text.proofs.circle_refused_line.Tie as tie
 
 returns : tie.Need-returns
 unfolding circleRefusedLine
-returns c =
-    let line = laid-then (c .before .before .before .before .before .before .put-circle .ensures .0) (c .before .before .put-refused .ensures .0) in
-    let (n, e) = laid-front line in
-    (n, e, omega (arith, c .before .before .before .before .before .before .put-circle .ensures .1, c .before .before .put-refused .ensures .1))
+returns c = laid-then (c .before .before .before .before .before .before .put-circle .ensures) (c .before .before .put-refused .ensures)
 
 pub circle-refused-line-spec : {M : Type 1} → statement M
 circle-refused-line-spec =

@@ -1,8 +1,6 @@
 -- `text::total_line` meets its contract.
 -- Assumes nothing.
-use native.Mathlib.Omega.{arith}
 use Rattle.text.proofs.Laying.{laid-then}
-use Rattle.text.proofs.Written.{laid-front}
 use Rattle.text.specs.Text.{totalLine}
 use borrow.Author.Needs.{needs}
 use Rattle.text.proofs.total_line.Statement.{statement}
@@ -10,10 +8,7 @@ use Rattle.text.proofs.total_line.Tie as tie
 
 returns : tie.Need-returns
 unfolding totalLine
-returns c =
-    let line = laid-then (c .before .before .before .before .before .before .put-bytes .ensures) (c .before .before .put-shown .ensures .0) in
-    let (n, e) = laid-front line in
-    (n, e, omega (arith, c .before .before .before .before .before .before .put-bytes .ensures .next, c .before .before .put-shown .ensures .1))
+returns c = laid-then (c .before .before .before .before .before .before .put-bytes .ensures) (c .before .before .put-shown .ensures)
 
 pub total-line-spec : {M : Type 1} → statement M
 total-line-spec =

@@ -7,7 +7,7 @@ use Rattle.card.proofs.words.circle_at.Tie as tie
 
 returns : tie.Need-returns
 unfolding circleAt
-returns c = simp (c .f64-at .ensures, c .before .u32-at2 .ensures, c .before .before .u32-at .ensures)
+returns c = rw (c .f64-at .ensures, c .before .u32-at2 .ensures, c .before .before .u32-at .ensures)
 
 pub circle-at-spec : {M : Type 1} → statement M
 circle-at-spec =

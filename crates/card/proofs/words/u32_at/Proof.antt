@@ -7,22 +7,18 @@ use Rattle.card.proofs.words.u32_at.Statement.{statement}
 use Rattle.card.proofs.words.u32_at.Tie as tie
 
 returns : tie.Need-returns
-returns c = rw (c .before .before .before .before .before .before .wide .ensures .0, c .before .before .before .before .wide2 .ensures .0, c .before .before .wide3 .ensures .0, c .wide4 .ensures .0) (sym (u32-bytes (c .before .before .before .before .before .before .before .before .before .args .card .now) (c .before .before .before .before .before .before .before .before .before .args .at) (c .before .before .before .before .before .before .before .before .before .pre)))
+returns c =
+    let first = c .before .before .before in
+    rw (first .byte-at .ensures .0, c .before .before .byte-at2 .ensures .0, c .before .byte-at3 .ensures .0, c .byte-at4 .ensures .0)
+    (sym (u32-bytes (first .before .before .args .card .now) (first .before .before .args .at)))
 
 pub u32-at-spec : {M : Type 1} → statement M
 u32-at-spec =
     tie.close
     (tie.spec
-    (λ c. search needs)
     (λ c κs. search needs)
-    (λ c. search needs)
-    (λ c. search needs)
     (λ c κs. search needs)
-    (λ c. search needs)
-    (λ c. search needs)
     (λ c κs. search needs)
-    (λ c. search needs)
-    (λ c. search needs)
     (λ c κs. search needs)
     (λ c. search needs)
     (λ c. search needs)

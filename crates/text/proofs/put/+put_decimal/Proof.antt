@@ -2,9 +2,10 @@
 -- Assumes nothing.
 use mathlib.Core.Path.{_∙_}
 use native.Mathlib.Omega.{arith}
-use Rattle.text.proofs.Digits.{decimal-one, decimal-more, decimal-length}
+use Rattle.text.proofs.Digits.{decimal-one, decimal-more}
 use Rattle.text.proofs.Laying.{laid-then}
 use Prim.Native.Nat.{ℕ, _<_}
+use borrow.Author.Needs.{needs}
 use borrow.Fn.Kinds.{In}
 use borrow.Fn.PlainCycle.{Measures, is, falls, and}
 use Rattle.text.proofs.put.put_decimal.Reads as put-decimal
@@ -36,16 +37,6 @@ put-decimal-digit-requires : (t : ℕ) → put-decimal-lts.Need-digit-requires (
 ) (put-decimal-at t) put-decimal.Post
 put-decimal-digit-requires t c κs = c .before .if1 .taken
 
-put-decimal-put-byte-requires : (t : ℕ) → put-decimal-lts.Need-put-byte-requires (
-  digit-reads.Asked,
-  digit-reads.Learnt,
-  put-byte-reads.Asked,
-  put-byte-reads.Learnt,
-  put-decimal-below t,
-  put-decimal.Post,
-) (put-decimal-at t) put-decimal.Post
-put-decimal-put-byte-requires t c κs = omega arith
-
 put-decimal-same-length : (t : ℕ) → put-decimal-lts.Need-same-length (
   digit-reads.Asked,
   digit-reads.Learnt,
@@ -64,7 +55,9 @@ put-decimal-returns : (t : ℕ) → put-decimal-lts.Need-returns (
   put-decimal-below t,
   put-decimal.Post,
 ) (put-decimal-at t) put-decimal.Post
-put-decimal-returns t c = (rw (decimal-one (c .before .before .before .before .before .before .before .args .n) (c .before .before .before .before .before .if1 .taken), ← c .before .before .before .digit .ensures) (c .before .before .put-byte .ensures), decimal-length (c .before .before .before .before .before .before .before .args .n) (c .before .before .before .before .before .before .before .fits .n .fits))
+put-decimal-returns t c =
+    let s = c .before .before .before .before .before in
+    rw (decimal-one (s .before .before .args .n) (s .if1 .taken), ← c .before .before .before .digit .ensures) (c .before .before .put-byte .ensures)
 
 put-decimal-put-decimal-requires : (t : ℕ) → put-decimal-lts.Need-put-decimal-requires (
   digit-reads.Asked,
@@ -86,16 +79,6 @@ put-decimal-digit-requires-2 : (t : ℕ) → put-decimal-lts.Need-digit-requires
 ) (put-decimal-at t) put-decimal.Post
 put-decimal-digit-requires-2 t c κs = omega arith
 
-put-decimal-put-byte-requires-2 : (t : ℕ) → put-decimal-lts.Need-put-byte-requires-2 (
-  digit-reads.Asked,
-  digit-reads.Learnt,
-  put-byte-reads.Asked,
-  put-byte-reads.Learnt,
-  put-decimal-below t,
-  put-decimal.Post,
-) (put-decimal-at t) put-decimal.Post
-put-decimal-put-byte-requires-2 t c κs = omega (arith, c .before .before .before .before .put-decimal .ensures .0 .next, c .before .before .before .before .put-decimal .ensures .1)
-
 put-decimal-same-length-2 : (t : ℕ) → put-decimal-lts.Need-same-length-2 (
   digit-reads.Asked,
   digit-reads.Learnt,
@@ -114,7 +97,11 @@ put-decimal-returns-2 : (t : ℕ) → put-decimal-lts.Need-returns-2 (
   put-decimal-below t,
   put-decimal.Post,
 ) (put-decimal-at t) put-decimal.Post
-put-decimal-returns-2 t c = (rw (decimal-more (c .before .before .before .before .before .before .before .before .before .before .before .args .n) (c .before .before .before .before .before .before .before .before .before .if1 .left), ← c .before .before .before .digit2 .ensures) (laid-then (c .before .before .before .before .before .before .before .put-decimal .ensures .0) (c .before .before .put-byte2 .ensures)), decimal-length (c .before .before .before .before .before .before .before .before .before .before .before .args .n) (c .before .before .before .before .before .before .before .before .before .before .before .fits .n .fits))
+put-decimal-returns-2 t c =
+    let digit = c .before .before .before in
+    let most = digit .before .before .before .before in
+    let s = most .before .before .before .before in
+    rw (decimal-more (s .args .n) (most .before .before .if1 .left), ← digit .digit2 .ensures) (laid-then (most .put-decimal .ensures) (c .before .before .put-byte2 .ensures))
 
 pub +put-decimal-spec : {M : Type 1} → statement M
 +put-decimal-spec = close μ-put-decimal λ t. put-decimal-lts.spec (
@@ -128,11 +115,11 @@ pub +put-decimal-spec : {M : Type 1} → statement M
     (put-decimal-at t)
     put-decimal.Post
     (put-decimal-digit-requires t)
-    (put-decimal-put-byte-requires t)
+    (λ c κs. search needs)
     (put-decimal-same-length t)
     (put-decimal-returns t)
     (put-decimal-put-decimal-requires t)
     (put-decimal-digit-requires-2 t)
-    (put-decimal-put-byte-requires-2 t)
+    (λ c κs. search needs)
     (put-decimal-same-length-2 t)
     (put-decimal-returns-2 t)

@@ -6,6 +6,7 @@ use native.Mathlib.Omega.{arith}
 use Rattle.text.proofs.Digits.{hex-more, hex-length}
 use Rattle.text.proofs.Laying.{laid-none, laid-then}
 use Prim.Native.Nat.{ℕ, _<_}
+use borrow.Author.Needs.{needs}
 use borrow.Fn.Kinds.{In}
 use borrow.Fn.PlainCycle.{Measures, is, falls, and}
 use Rattle.text.proofs.put.put_hex.Reads as put-hex
@@ -33,7 +34,7 @@ put-hex-returns : (t : ℕ) → put-hex-lts.Need-returns (
   put-byte-reads.Asked,
   put-byte-reads.Learnt,
 ) (put-hex-at t) put-hex.Post
-put-hex-returns t c = rw (c .if1 .taken) (laid-none _ _)
+put-hex-returns t c = rw (c .if1 .taken) (laid-none _ _ (omega arith) (omega arith))
 
 put-hex-sub-put-hex : (t : ℕ) → put-hex-lts.Need-sub-put-hex (
   put-hex-below t,
@@ -53,7 +54,7 @@ put-hex-put-hex-requires : (t : ℕ) → put-hex-lts.Need-put-hex-requires (
   put-byte-reads.Asked,
   put-byte-reads.Learnt,
 ) (put-hex-at t) put-hex.Post
-put-hex-put-hex-requires t c κs = (omega arith, omega arith)
+put-hex-put-hex-requires t c κs = (omega arith, search needs)
 
 put-hex-hex-digit-requires : (t : ℕ) → put-hex-lts.Need-hex-digit-requires (
   put-hex-below t,
@@ -64,16 +65,6 @@ put-hex-hex-digit-requires : (t : ℕ) → put-hex-lts.Need-hex-digit-requires (
   put-byte-reads.Learnt,
 ) (put-hex-at t) put-hex.Post
 put-hex-hex-digit-requires t c κs = omega arith
-
-put-hex-put-byte-requires : (t : ℕ) → put-hex-lts.Need-put-byte-requires (
-  put-hex-below t,
-  put-hex.Post,
-  hex-digit-reads.Asked,
-  hex-digit-reads.Learnt,
-  put-byte-reads.Asked,
-  put-byte-reads.Learnt,
-) (put-hex-at t) put-hex.Post
-put-hex-put-byte-requires t c κs = omega (arith, c .before .before .before .before .put-hex .ensures .next, hex-length (c .before .before .before .before .before .before .before .before .args .k - 1) (c .before .before .before .before .before .before .before .before .args .n / 16))
 
 put-hex-same-length : (t : ℕ) → put-hex-lts.Need-same-length (
   put-hex-below t,
@@ -93,7 +84,11 @@ put-hex-returns-2 : (t : ℕ) → put-hex-lts.Need-returns-2 (
   put-byte-reads.Asked,
   put-byte-reads.Learnt,
 ) (put-hex-at t) put-hex.Post
-put-hex-returns-2 t c = rw (hex-more (c .before .before .before .before .before .before .before .before .before .before .before .args .k) (c .before .before .before .before .before .before .before .before .before .before .before .args .n) (c .before .before .before .before .before .before .before .before .before .if1 .left), ← c .before .before .before .hex-digit .ensures) (laid-then (c .before .before .before .before .before .before .before .put-hex .ensures) (c .before .before .put-byte .ensures))
+put-hex-returns-2 t c =
+    let digit = c .before .before .before in
+    let most = digit .before .before .before .before in
+    let s = most .before .before .before .before in
+    rw (hex-more (s .args .k) (s .args .n) (most .before .before .if1 .left), ← digit .hex-digit .ensures) (laid-then (most .put-hex .ensures) (c .before .before .put-byte .ensures))
 
 pub +put-hex-spec : {M : Type 1} → statement M
 +put-hex-spec = close μ-put-hex λ t. put-hex-lts.spec (
@@ -110,6 +105,6 @@ pub +put-hex-spec : {M : Type 1} → statement M
     (put-hex-sub-put-hex t)
     (put-hex-put-hex-requires t)
     (put-hex-hex-digit-requires t)
-    (put-hex-put-byte-requires t)
+    (λ c κs. search needs)
     (put-hex-same-length t)
     (put-hex-returns-2 t)

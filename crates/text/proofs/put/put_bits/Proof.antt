@@ -1,18 +1,14 @@
 -- `text::put::put_bits` meets its contract.
 -- Assumes nothing.
-use native.Mathlib.Omega.{arith}
 use Rattle.text.proofs.Laying.{laid-then}
-use Rattle.text.proofs.Digits.{hex-length}
 use borrow.Author.Needs.{needs}
 use Rattle.text.proofs.put.put_bits.Statement.{statement}
 use Rattle.text.proofs.put.put_bits.Tie as tie
 
 returns : tie.Need-returns
 returns c =
-    let word = c .before .before .before .before .before .before .before .before .before .before .put-bytes .ensures in
-    let digits = c .before .before .before .before .before .before .put-hex .ensures in
-    let line = laid-then (laid-then word digits) (c .before .before .put-byte .ensures) in
-    (line, omega (arith, word .next, digits .next, c .before .before .put-byte .ensures .next, hex-length 16 (c .before .before .before .before .before .before .before .before .before .before .before .before .before .before .args .n)))
+    let digits = c .before .before .before .before .before .before in
+    laid-then (laid-then (digits .before .before .before .before .put-bytes .ensures) (digits .put-hex .ensures)) (c .before .before .put-byte .ensures)
 
 pub put-bits-spec : {M : Type 1} → statement M
 put-bits-spec =

@@ -4,7 +4,7 @@ use Prim.Native.Nat.{_≤_, _-_}
 use native.Mathlib.Numerals.{add-one}
 use native.Mathlib.Omega.{arith}
 use lib.ListN.{length, take}
-use lib.Seq.{take-suc, take-all, length-take-le}
+use lib.Seq.{take-suc, take-all}
 use borrow.Author.Needs.{needs}
 use Rattle.text.specs.Laid.{Laid}
 use Rattle.text.proofs.Laying.{laid-none, laid-then, laid-length}
@@ -18,13 +18,10 @@ abbrev μ-loop : tie.MeasureT-loop
 μ-loop out₀ at text next₀ i₀ out next i = length text - i
 
 loop-holds : tie.Need-loop-holds Inv-loop μ-loop
-loop-holds c = (laid-none _ _, search needs)
+loop-holds c = (laid-none _ _ (omega arith) (omega arith), search needs)
 
 shared-slice-read-put-byte : tie.Need-shared-slice-read-put-byte Inv-loop μ-loop
 shared-slice-read-put-byte c = omega arith
-
-put-byte-requires : tie.Need-put-byte-requires Inv-loop μ-loop
-put-byte-requires c κs = omega (arith, c .before .before .before .loop .inv .0 .next, length-take-le (c .before .before .before .loop .i) (c .before .before .before .before .before .before .args .text .now) (c .before .before .before .loop .inv .1))
 
 add-i : tie.Need-add-i Inv-loop μ-loop
 add-i c = omega arith
@@ -54,7 +51,7 @@ put-bytes-spec =
     μ-loop
     loop-holds
     shared-slice-read-put-byte
-    put-byte-requires
+    (λ c κs. search needs)
     add-i
     loop-less
     loop-again

@@ -1,16 +1,12 @@
 -- `text::put::put_circle` meets its contract.
 -- Assumes nothing.
-use native.Mathlib.Omega.{arith}
 use Rattle.text.proofs.Laying.{laid-then}
 use borrow.Author.Needs.{needs}
 use Rattle.text.proofs.put.put_circle.Statement.{statement}
 use Rattle.text.proofs.put.put_circle.Tie as tie
 
 returns : tie.Need-returns
-returns c =
-    let a = c .before .before .before .before .before .before .put-bytes .ensures in
-    let b = c .before .before .put-number .ensures in
-    (laid-then a (b .0), omega (arith, a .next, b .1))
+returns c = laid-then (c .before .before .before .before .before .before .put-bytes .ensures) (c .before .before .put-number .ensures)
 
 pub put-circle-spec : {M : Type 1} → statement M
 put-circle-spec =

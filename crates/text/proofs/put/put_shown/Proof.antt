@@ -1,6 +1,5 @@
 -- `text::put::put_shown` meets its contract.
 -- Assumes nothing.
-use native.Mathlib.Omega.{arith}
 use Rattle.text.specs.Text.{shown}
 use mathlib.Core.Path.{sym, _∙_}
 use borrow.Author.Needs.{needs}
@@ -13,13 +12,14 @@ whole-requires c κs = sym (c .before .before .is-count .ensures) ∙ c .before 
 returns : tie.Need-returns
 unfolding shown
 returns c =
-    let n = c .before .before .put-number .ensures in
-    rw (← c .before .before .before .before .before .before .is-count .ensures, c .before .before .before .before .before .if1 .taken, ← c .before .before .before .whole .ensures) (n .0, omega (arith, n .1))
+    let tested = c .before .before .before .before .before in
+    rw (← tested .before .is-count .ensures, tested .if1 .taken, ← c .before .before .before .whole .ensures) (c .before .before .put-number .ensures)
 
 returns-2 : tie.Need-returns-2
 unfolding shown
 returns-2 c =
-    rw (← c .before .before .before .before .before .before .is-count .ensures, c .before .before .before .before .before .if1 .left, ← c .before .before .before .to-bits .ensures) (c .before .before .put-bits .ensures)
+    let tested = c .before .before .before .before .before in
+    rw (← tested .before .is-count .ensures, tested .if1 .left, ← c .before .before .before .to-bits .ensures) (c .before .before .put-bits .ensures)
 
 pub put-shown-spec : {M : Type 1} → statement M
 put-shown-spec =

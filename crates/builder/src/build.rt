@@ -1,0 +1,166 @@
+// The builder's calls: start, row, finish. A call that refuses changes nothing that it is lent.
+ghost use mathlib.Core.Path.{_≡_};
+ghost use lib.ListN.{length, replicate};
+ghost use Rattle.float.specs.Float.{f64zero};
+ghost use Rattle.refusal.specs.Refusal.{answered};
+ghost use Rattle.raster.specs.Raster.{sanitisedRow};
+ghost use Rattle.decimation.specs.Decimation.{decimationNew};
+ghost use Rattle.builder.specs.Build.{buffers, lengthsOf, builderOutcome, finishOutcome, startCall, rowRefusal, builderAfter, buffersAfter, rowCall, rowLeft, finishCall};
+use crate::Builder;
+use crate::BuilderAnswer;
+use crate::BuiltTable;
+use crate::FinishAnswer;
+use crate::Lengths;
+use crate::checks::lent_refusal;
+use crate::hand_on::decimated;
+use crate::hand_on::lay;
+use decimation::Decimation;
+use decimation::DecimationAnswer;
+use grid::Grid;
+use raster::CellTallies;
+
+fn clear(cells: &mut [f64])
+    ensures { λ _. ⌜ now (cells .exit) ≡ replicate (length (now (cells .entry))) f64zero ⌝ }
+{
+    let mut i = 0;
+    while i < cells.len() {
+        cells[i] = 0.0;
+        i += 1;
+    }
+}
+
+impl Builder {
+    // A start, once there is a decimation. The first table row is the accumulator's zeros: the padding that lets a
+    // rectangle at the north edge subtract four corners like any other.
+    fn begin(
+        d: Decimation,
+        nodata: u32,
+        acc: &mut [f64],
+        corr: &mut [f64],
+        coarse: &mut [f64],
+        table: &mut [f64],
+    ) -> BuilderAnswer
+        requires { ⌜ decimationNew (d .source) (d .factor) ≡ answered d ⌝ }
+        ensures { λ r. ⌜ (builderOutcome r ≡ startCall (d .source) (d .factor) nodata (buffers (now (acc .entry)) (now (corr .entry)) (now (coarse .entry)) (now (table .entry))) .answer)
+            × (buffers (now (acc .exit)) (now (corr .exit)) (now (coarse .exit)) (now (table .exit))
+            ≡ startCall (d .source) (d .factor) nodata (buffers (now (acc .entry)) (now (corr .entry)) (now (coarse .entry)) (now (table .entry))) .buffers) ⌝ }
+    {
+        let lent = Lengths {
+            acc: acc.len(),
+            corr: corr.len(),
+            coarse: coarse.len(),
+            table: table.len(),
+        };
+        let n = lent_refusal(d, lent, refusal::PASSED);
+        if n != refusal::PASSED {
+            return BuilderAnswer::Refused(n);
+        }
+        clear(acc);
+        clear(corr);
+        lay(table, d.grid, 0, decimated(acc, coarse, 1, d.grid.width as usize + 1));
+        BuilderAnswer::Accepted(Builder {
+            decimation: d,
+            nodata,
+            rows: 0,
+            digest: digest::FNV_OFFSET_BASIS,
+            tallies: CellTallies::none(),
+        })
+    }
+
+    pub fn start(
+        source: Grid,
+        factor: u32,
+        nodata: u32,
+        acc: &mut [f64],
+        corr: &mut [f64],
+        coarse: &mut [f64],
+        table: &mut [f64],
+    ) -> BuilderAnswer
+        ensures { λ r. ⌜ (builderOutcome r ≡ startCall source factor nodata (buffers (now (acc .entry)) (now (corr .entry)) (now (coarse .entry)) (now (table .entry))) .answer)
+            × (buffers (now (acc .exit)) (now (corr .exit)) (now (coarse .exit)) (now (table .exit))
+            ≡ startCall source factor nodata (buffers (now (acc .entry)) (now (corr .entry)) (now (coarse .entry)) (now (table .entry))) .buffers) ⌝ }
+    {
+        let made = Decimation::new(source, factor);
+        match made {
+            DecimationAnswer::Made(d) => Builder::begin(d, nodata, acc, corr, coarse, table),
+            DecimationAnswer::Refused(n) => BuilderAnswer::Refused(n),
+        }
+    }
+
+    // A row that no check refuses is taken in.
+    fn take_row(
+        self,
+        row: &mut [u32],
+        acc: &mut [f64],
+        corr: &mut [f64],
+        coarse: &mut [f64],
+        table: &mut [f64],
+    ) -> Builder
+        requires { ⌜ rowRefusal self (length (now row)) (lengthsOf (buffers (now acc) (now corr) (now coarse) (now table))) ≡ 0 ⌝ }
+        ensures { λ r. ⌜ (r ≡ builderAfter self (now (row .entry))) × (now (row .exit) ≡ sanitisedRow (self .nodata) (now (row .entry)))
+            × (buffers (now (acc .exit)) (now (corr .exit)) (now (coarse .exit)) (now (table .exit))
+            ≡ buffersAfter self (now (row .entry)) (buffers (now (acc .entry)) (now (corr .entry)) (now (coarse .entry)) (now (table .entry)))) ⌝ }
+    {
+        let decimation = self.decimation;
+        let before = self.tallies;
+        let tallies = before.plus(raster::sanitise_row(row, self.nodata));
+        let digest = sweep::sweep_row(acc, corr, row, self.digest);
+        self.hand_on(acc, coarse, table);
+        Builder {
+            decimation,
+            nodata: self.nodata,
+            rows: self.rows + 1,
+            digest,
+            tallies,
+        }
+    }
+
+    pub fn row(
+        self,
+        row: &mut [u32],
+        acc: &mut [f64],
+        corr: &mut [f64],
+        coarse: &mut [f64],
+        table: &mut [f64],
+    ) -> BuilderAnswer
+        ensures { λ r. ⌜ (builderOutcome r ≡ rowCall self (now (row .entry)) (buffers (now (acc .entry)) (now (corr .entry)) (now (coarse .entry)) (now (table .entry))) .answer)
+            × (now (row .exit) ≡ rowLeft self (now (row .entry)) (buffers (now (acc .entry)) (now (corr .entry)) (now (coarse .entry)) (now (table .entry))))
+            × (buffers (now (acc .exit)) (now (corr .exit)) (now (coarse .exit)) (now (table .exit))
+            ≡ rowCall self (now (row .entry)) (buffers (now (acc .entry)) (now (corr .entry)) (now (coarse .entry)) (now (table .entry))) .buffers) ⌝ }
+    {
+        let lent = Lengths {
+            acc: acc.len(),
+            corr: corr.len(),
+            coarse: coarse.len(),
+            table: table.len(),
+        };
+        let n = self.row_refusal(row.len(), lent);
+        if n != refusal::PASSED {
+            return BuilderAnswer::Refused(n);
+        }
+        BuilderAnswer::Accepted(self.take_row(row, acc, corr, coarse, table))
+    }
+
+    pub fn finish(self, acc: &[f64], corr: &[f64], coarse: &[f64], table: &[f64]) -> FinishAnswer
+        ensures { λ r. ⌜ finishOutcome r ≡ finishCall self (buffers (now (acc .entry)) (now (corr .entry)) (now (coarse .entry)) (now (table .entry))) ⌝ }
+    {
+        let lent = Lengths {
+            acc: acc.len(),
+            corr: corr.len(),
+            coarse: coarse.len(),
+            table: table.len(),
+        };
+        let n = self.finish_refusal(lent);
+        if n != refusal::PASSED {
+            return FinishAnswer::Refused(n);
+        }
+        let tallies = self.tallies;
+        let decimation = self.decimation;
+        FinishAnswer::Finished(BuiltTable {
+            digest: self.digest,
+            tallies,
+            total: acc[decimation.source.width as usize],
+            decimation,
+        })
+    }
+}

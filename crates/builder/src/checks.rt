@@ -1,0 +1,77 @@
+// The checks of the builder's calls. They look at the lengths of what is lent, never at what it holds.
+ghost use mathlib.Core.Path.{_≡_};
+ghost use mathlib.Core.Bool.{true};
+ghost use Rattle.decimation.specs.Decimation.{validDecimation};
+ghost use Rattle.builder.specs.Build.{rightLengths, lentRefusal, validBuilder, rowRefusal, finishRefusal};
+use crate::Builder;
+use crate::Lengths;
+use decimation::Decimation;
+use refusal::first;
+use table::Table;
+
+fn has_right_lengths(d: Decimation, lent: Lengths) -> bool
+    requires { ⌜ validDecimation d ≡ true ⌝ }
+    ensures { λ r. ⌜ r ≡ rightLengths d lent ⌝ }
+{
+    let row = d.source.width as usize + 1;
+    let coarse = d.grid.width as usize + 1;
+    let cells = Table::padded_len(d.grid);
+    (lent.acc == row) & (lent.corr == row) & (lent.coarse == coarse) & (lent.table == cells)
+}
+
+// The number for a length that is wrong, else that of the checks after it.
+pub(crate) fn lent_refusal(d: Decimation, lent: Lengths, rest: u32) -> u32
+    requires { ⌜ validDecimation d ≡ true ⌝ }
+    ensures { λ r. ⌜ r ≡ lentRefusal d lent rest ⌝ }
+{
+    first(
+        !has_right_lengths(d, lent),
+        refusal::WRONG_BUFFER_LENGTH,
+        rest,
+    )
+}
+
+impl Builder {
+    // Whether a start or a row call could have given it.
+    fn is_valid(self) -> bool
+        ensures { λ r. ⌜ r ≡ validBuilder self ⌝ }
+    {
+        let d = self.decimation;
+        if !d.is_valid() {
+            return false;
+        }
+        if self.rows > d.source.height {
+            return false;
+        }
+        let tallies = self.tallies;
+        tallies.total() == self.rows as u64 * d.source.width as u64
+    }
+
+    // The number of a row call's refusal, or PASSED.
+    pub(crate) fn row_refusal(self, row: usize, lent: Lengths) -> u32
+        ensures { λ r. ⌜ r ≡ rowRefusal self row lent ⌝ }
+    {
+        if !self.is_valid() {
+            return refusal::NOT_ITS_MAKERS;
+        }
+        let d = self.decimation;
+        let late = self.rows == d.source.height;
+        let off = row != d.source.width as usize;
+        let n12 = first(off, refusal::WRONG_ROW_LENGTH, refusal::PASSED);
+        let n13 = first(late, refusal::ROW_AFTER_LAST, n12);
+        lent_refusal(d, lent, n13)
+    }
+
+    // The number of a finish's refusal, or PASSED.
+    pub(crate) fn finish_refusal(self, lent: Lengths) -> u32
+        ensures { λ r. ⌜ r ≡ finishRefusal self lent ⌝ }
+    {
+        if !self.is_valid() {
+            return refusal::NOT_ITS_MAKERS;
+        }
+        let d = self.decimation;
+        let early = self.rows < d.source.height;
+        let n14 = first(early, refusal::FINISH_BEFORE_LAST, refusal::PASSED);
+        lent_refusal(d, lent, n14)
+    }
+}

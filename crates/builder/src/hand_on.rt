@@ -1,0 +1,99 @@
+// The row handed on to the table, and table rows written.
+ghost use mathlib.Core.Path.{_≡_};
+ghost use mathlib.Core.List.{_++_};
+ghost use Prim.Native.Nat.{_+_, _*_, _<_, _≤_};
+ghost use lib.ListN.{length, drop};
+ghost use Rattle.table.specs.Place.{laidRow};
+ghost use Rattle.builder.specs.Rows.{sampled, coarseFilled, handedOn};
+ghost use Rattle.builder.specs.Build.{coarseAfter, tableAfter};
+ghost use Rattle.builder.specs.private.Room.{Room, RowRoom};
+use crate::Builder;
+use decimation::Decimation;
+use grid::Grid;
+use table::Table;
+
+fn fill(coarse: &mut [f64], acc: &[f64], factor: usize)
+    requires { ⌜ length (now coarse) * factor < length (now acc) + factor ⌝ }
+    ensures { λ _. ⌜ now (coarse .exit) ≡ sampled (now (acc .entry)) factor 0 (length (now (coarse .entry))) ⌝ }
+{
+    let mut j = 0;
+    while j < coarse.len() {
+        coarse[j] = acc[j * factor];
+        j += 1;
+    }
+}
+
+// The coarse row takes every factor-th entry of the accumulator; at factor 1 it is not written.
+fn fill_coarse(coarse: &mut [f64], acc: &[f64], factor: usize)
+    requires { ⌜ length (now coarse) * factor < length (now acc) + factor ⌝ }
+    ensures { λ _. ⌜ now (coarse .exit) ≡ coarseFilled (now (acc .entry)) (now (coarse .entry)) factor ⌝ }
+{
+    if factor != 1 {
+        fill(coarse, acc, factor);
+    }
+}
+
+// The row handed on: the accumulator itself at factor 1, else the coarse row. A prefix sum over blocks and one over
+// cells agree at every block's corner, so nothing is summed again.
+pub(crate) fn decimated<'a>(
+    acc: &'a [f64],
+    coarse: &'a [f64],
+    factor: usize,
+    n: usize,
+) -> &'a [f64]
+    requires { ⌜ (n ≤ length (now acc)) × (n ≤ length (now coarse)) ⌝ }
+    ensures { λ r. ⌜ now r ≡ handedOn (now (acc .entry)) (now (coarse .entry)) factor n ⌝ }
+{
+    if factor == 1 {
+        return &acc[..n];
+    }
+    &coarse[..n]
+}
+
+fn emit(dst: &mut [f64], src: &[f64])
+    requires { ⌜ length (now src) ≤ length (now dst) ⌝ }
+    ensures { λ _. ⌜ now (dst .exit) ≡ now (src .entry) ++ drop (length (now (src .entry))) (now (dst .entry)) ⌝ }
+{
+    let mut i = 0;
+    while i < src.len() {
+        dst[i] = src[i];
+        i += 1;
+    }
+}
+
+// A row is written over the cells of a table row: the table is lent from the first of them on.
+pub(crate) fn lay(table: &mut [f64], grid: Grid, at: u32, row: &[f64])
+    requires { ⌜ RowRoom grid at (length (now row)) (length (now table)) ⌝ }
+    ensures { λ _. ⌜ now (table .exit) ≡ laidRow (grid .width) (now (table .entry)) at (now (row .entry)) ⌝ }
+{
+    let start = Table::cell_at(grid, at, 0);
+    emit(&mut table[start..], row);
+}
+
+fn complete_row(d: Decimation, at: u32, acc: &[f64], coarse: &mut [f64], table: &mut [f64])
+    requires { ⌜ (Room d (length (now acc)) (length (now coarse)) (length (now table))) × (at ≤ d .grid .height) ⌝ }
+    ensures { λ _. ⌜ (now (coarse .exit) ≡ coarseFilled (now (acc .entry)) (now (coarse .entry)) (d .factor))
+        × (now (table .exit) ≡ laidRow (d .grid .width) (now (table .entry)) at
+        (handedOn (now (acc .entry)) (coarseFilled (now (acc .entry)) (now (coarse .entry)) (d .factor)) (d .factor) (d .grid .width + 1))) ⌝ }
+{
+    let factor = d.factor as usize;
+    let n = d.grid.width as usize + 1;
+    fill_coarse(coarse, acc, factor);
+    lay(table, d.grid, at, decimated(acc, coarse, factor, n));
+}
+
+impl Builder {
+    // The factor divides the height, so the last row always completes a table row: no block is left part filled.
+    pub(crate) fn hand_on(self, acc: &[f64], coarse: &mut [f64], table: &mut [f64])
+        requires { ⌜ (Room (self .decimation) (length (now acc)) (length (now coarse)) (length (now table)))
+            × (self .rows < self .decimation .source .height) ⌝ }
+        ensures { λ _. ⌜ (now (coarse .exit) ≡ coarseAfter self (now (acc .entry)) (now (coarse .entry)))
+            × (now (table .exit) ≡ tableAfter self (now (acc .entry)) (now (coarse .entry)) (now (table .entry))) ⌝ }
+    {
+        let d = self.decimation;
+        let rows = self.rows + 1;
+        if rows % d.factor == 0 {
+            complete_row(d, rows / d.factor, acc, coarse, table);
+        }
+    }
+}

@@ -1,0 +1,2 @@
+-- What private functions of this crate and of the crates above it go by.
+pub mod Accepted

@@ -1,0 +1,2 @@
+-- What private functions of `circle` go by.
+pub mod Ready

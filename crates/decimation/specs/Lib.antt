@@ -1,0 +1,2 @@
+-- The definitions that the contracts of `decimation` cite.
+pub mod Decimation

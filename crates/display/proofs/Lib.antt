@@ -1,0 +1,4 @@
+-- Read Theorem: `display`.
+mod Shown
+mod Built
+pub mod Theorem

@@ -1,0 +1,58 @@
+-- FROM THE CARD TO THE DISPLAY: what `count` shows of a card whose cells are whole numbers of people, by document 01's ledger alone: no table, no
+-- builder and no float sum stands here. Definitions only.
+use Prim.Native.Nat.{ℕ, zero, suc}
+use mathlib.Core.List.{List, [], _∷_, _++_}
+use lib.ListN.{replicate}
+use Rattle.grid.specs.declared.Grid.{Grid}
+use Rattle.grid.specs.declared.Row.{Row}
+use Rattle.geodesy.specs.declared.RadiusKm.{RadiusKm}
+use Rattle.kernel.specs.Kernel.{northRow, rowCount, halfWidths}
+use Rattle.area.specs.Area.{inCircle}
+use Rattle.ledger.specs.Ledger.{Call, row, Ledger, opened, ledgerAfter, sumIn}
+use Rattle.ledger.specs.Claim.{coveredIn}
+use Rattle.text.specs.Text.{decimal, space, newline, totalWord, circleWord, circleRefusedLine, rowsLine, cellsLine}
+use Rattle.card.specs.declared.Header.{Header}
+use Rattle.card.specs.declared.CardCircle.{CardCircle}
+use Rattle.card.specs.Card.{rowAt, circleAt}
+use Rattle.report.specs.Printed.{circleChecks}
+
+-- the first n rows of the card, in order, as row calls
+abbrev pub rowCalls : List ℕ → Header → ℕ → List Call
+rowCalls card h zero = []
+rowCalls card h (suc n) = rowCalls card h n ++ row (rowAt card h n) ∷ []
+
+-- document 01's ledger, fed those rows; and fed every row of the card
+abbrev pub ledgerOf : List ℕ → Header → ℕ → Ledger
+ledgerOf card h n = ledgerAfter (h .decimation .source) (h .nodata) opened (rowCalls card h n)
+
+abbrev pub cardLedger : List ℕ → Header → Ledger
+cardLedger card h = ledgerOf card h (h .decimation .source .height)
+
+-- the people of a circle: the sum of the source cells that it covers, by the rows and half-widths that its kernel has on the coarse grid
+unfoldable pub peopleCovered : List ℕ → Header → CardCircle → ℕ
+peopleCovered card h c =
+    let g : Grid = h .decimation .grid in
+    let centre : Row = record { 0 = c .row } in
+    let radius : RadiusKm = record { 0 = c .radius } in
+    coveredIn 0 (h .decimation .source) (cardLedger card h)
+    (inCircle (h .decimation .factor) (g .width) (northRow g centre radius) (rowCount g centre radius) (c .col)
+    (halfWidths g centre radius (replicate (g .height) 0)))
+
+-- a circle's line: its index and the people in decimal, or `refused` and the number of the first of 18, 19, 15, 17, 16 that fails
+abbrev pub peopleOr : ℕ → ℕ → ℕ → List ℕ
+peopleOr i zero people = circleWord ++ decimal i ++ space ++ decimal people ++ newline
+peopleOr i (suc n) people = circleRefusedLine i (suc n)
+
+abbrev pub circleShown : List ℕ → Header → ℕ → List ℕ
+circleShown card h i = peopleOr i (circleChecks (h .decimation .grid) (circleAt card h i)) (peopleCovered card h (circleAt card h i))
+
+-- the lines of the first n circles
+abbrev pub circlesShown : List ℕ → Header → ℕ → List ℕ
+circlesShown card h zero = []
+circlesShown card h (suc n) = circlesShown card h n ++ circleShown card h n
+
+-- `rows` and the height, `cells` and the ledger's tallies, `total` and the sum of the ledger's cells, then the circles
+abbrev pub displayed : List ℕ → Header → List ℕ
+displayed card h =
+    let l = cardLedger card h in
+    rowsLine (h .decimation .source .height) ++ cellsLine (l .tallies) ++ (totalWord ++ decimal (sumIn 0 l) ++ newline) ++ circlesShown card h (h .circles)

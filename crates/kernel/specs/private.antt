@@ -1,0 +1,2 @@
+-- What private functions of `kernel` go by.
+pub mod Terms

@@ -1,0 +1,11 @@
+-- `raster::CellTallies::plus` meets its contract.
+-- Assumes nothing.
+use borrow.Author.Needs.{needs}
+use Rattle.raster.proofs.CellTallies.plus.Statement.{statement}
+use Rattle.raster.proofs.CellTallies.plus.Tie as tie
+
+returns : tie.Need-returns
+returns c = cc
+
+pub plus-spec : {M : Type 1} → statement M
+plus-spec = tie.close (tie.spec (λ c κs. search needs) (λ c κs. search needs) (λ c κs. search needs) (λ c κs. search needs) returns)

@@ -1,0 +1,2 @@
+-- What the private functions of `report` go by.
+pub mod Steps

@@ -1,0 +1,2 @@
+-- What private functions of `sweep` go by.
+pub mod Cell

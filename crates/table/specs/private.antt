@@ -1,0 +1,2 @@
+-- What private functions of `table` go by.
+pub mod Held
