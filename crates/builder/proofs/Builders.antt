@@ -6,7 +6,7 @@ use Prim.Native.Nat.{ℕ, zero, suc, _*_, _≤_, _<_}
 use native.Mathlib.Nat.{suc-mul, zero-mul, mul-le-mul}
 use native.Mathlib.Numerals.{lt-of-le-of-ne}
 use native.Mathlib.Omega.{arith}
-use borrow.Author.Tests.{eqb-true, eqb-false, leb-true, ltb-false, eq-eqb, le-leb, lt-leb, not-false}
+use borrow.Author.Tests.{eqb-true, eqb-false, leb-true, ltb-false, eq-eqb, ne-eqb, le-leb, lt-leb, le-ltb, not-false}
 use lib.Dec.{eqb, leb, ltb}
 use lib.ListN.{length}
 use Rattle.refusal.proofs.Tests.{both}
@@ -155,6 +155,17 @@ pub finish-goes-on : (b : Builder) (lent : Lengths) → validBuilder b ≡ true 
     → finishRefusal b lent ≡ first (ltb (b .rows) (b .decimation .source .height)) finishBeforeLast passed
 unfolding finishRefusal
 finish-goes-on b lent v l = rw (v) (lent-goes-on (b .decimation) lent _ l)
+
+-- and so a row call and a finish that may be made are not refused
+pub row-passes : (b : Builder) (row : List ℕ) (m : Buffers) → Taken b row m → rowRefusal b (length row) (lengthsOf m) ≡ 0
+row-passes b row m t =
+    let on : b .rows ≡ b .decimation .source .height → ⊥ = λ e. omega (arith, t .left) in
+    row-goes-on b (length row) (lengthsOf m) (t .valid) (t .lengths)
+    ∙ rw (ne-eqb (b .rows) (b .decimation .source .height) on, eq-eqb (length row) (b .decimation .source .width) (t .size))
+
+pub finish-passes : (b : Builder) (m : Buffers) → Complete b m → finishRefusal b (lengthsOf m) ≡ 0
+finish-passes b m t =
+    finish-goes-on b (lengthsOf m) (t .valid) (t .lengths) ∙ rw (le-ltb (b .rows) (b .decimation .source .height) (omega (arith, t .rows)))
 
 -- ---- a start and a row call give a valid builder
 

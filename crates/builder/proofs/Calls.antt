@@ -9,7 +9,7 @@ use borrow.Author.Tests.{eq-eqb, ne-eqb}
 use lib.Dec.{eqb}
 use lib.ListN.{length, replicate}
 use lib.Ieee.{Float}
-use Rattle.refusal.proofs.Chains.{refused-by}
+use Rattle.refusal.proofs.Chains.{refused-by, left-alone}
 use Rattle.refusal.specs.Refusal.{answered, refused, first, passed, outcome, unlessRefused, notItsMakers}
 use Rattle.float.specs.Float.{f64zero}
 use Rattle.digest.specs.Digest.{firstDigest, digestOf}
@@ -21,7 +21,6 @@ use Rattle.table.specs.Place.{laidRow}
 use Rattle.decimation.specs.declared.Decimation.{Decimation}
 use Rattle.decimation.specs.Decimation.{factorRefusal, decimationOf, decimationNew}
 use Rattle.decimation.proofs.Factors.{decimation-made}
-use Rattle.decimation.proofs.Outcomes.{left-alone}
 use Rattle.sweep.specs.Sweep.{accAfter, corrAfter}
 use Rattle.builder.specs.declared.Builder.{Builder}
 use Rattle.builder.specs.Rows.{coarseFilled, handedOn}

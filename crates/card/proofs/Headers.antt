@@ -12,7 +12,7 @@ use lib.Ieee.{binary64}
 use lib.Ieee.Bits.{ofBits-fits}
 use lib.ListN.{length}
 use Rattle.refusal.specs.Refusal.{Outcome, answered, refused, first, passed, outcome, andThen, notItsMakers, cardEndsEarly, cardTooLarge}
-use Rattle.refusal.proofs.Chains.{first-passed, answered-passed}
+use Rattle.refusal.proofs.Chains.{first-passed, answered-passed, went-past, went-on}
 use Rattle.refusal.proofs.Tests.{both}
 use Rattle.grid.specs.declared.Grid.{Grid}
 use Rattle.grid.specs.Grid.{gridNew, validGrid}
@@ -38,14 +38,6 @@ pub too-many : (len at n : ℕ) → len ≤ 65536 → 65536 < n → leb (at + 4 
 too-many len at n p q = lt-leb (at + 4 * n) len (omega arith)
 
 -- ---- an accepted header
-
-past : (b : Bool) (n : ℕ) (x : Outcome Header) (h : Header) → cond b (refused n) x ≡ answered h → (b ≡ false) × (x ≡ answered h)
-past true n x h e = let z : _≡_ {A = ℕ} 0 1 = cc in absurd (omega arith)
-past false n x h e = (refl, e)
-
-went-on : {A : Type 0} (o : Outcome A) (next : A → Outcome Header) (h : Header) → andThen o next ≡ answered h → (a : A) × (o ≡ answered a) × (next a ≡ answered h)
-went-on (answered a) next h e = (a, refl, e)
-went-on (refused n) next h e = let z : _≡_ {A = ℕ} 0 1 = cc in absurd (omega arith)
 
 -- the grid that a card's header makes is valid, so its decimation is refused by 10 and the coarse grid's own 1 to 9 alone, and never by 22
 pub never-22 : (card : List ℕ) (g : Grid) (k : ℕ) → gridNew (gridAt card) ≡ answered g
@@ -85,9 +77,9 @@ pub accepted : (card : List ℕ) (h : Header) → readHeader card ≡ answered h
 unfolding readHeader
 accepted card h e =
     let rest = andThen (gridNew (gridAt card)) (withGrid card) in
-    let p = past (ltb 65536 (length card)) _ (cond (ltb (length card) 64) _ (cond (not (eqb (u32At card 60) 0)) _ rest)) h e in
-    let q = past (ltb (length card) 64) _ (cond (not (eqb (u32At card 60) 0)) _ rest) h (p .1) in
-    let r = past (not (eqb (u32At card 60) 0)) _ rest h (q .1) in
+    let p = went-past (ltb 65536 (length card)) _ (cond (ltb (length card) 64) _ (cond (not (eqb (u32At card 60) 0)) _ rest)) h e in
+    let q = went-past (ltb (length card) 64) _ (cond (not (eqb (u32At card 60) 0)) _ rest) h (p .1) in
+    let r = went-past (not (eqb (u32At card 60) 0)) _ rest h (q .1) in
     let (g, _, s) = went-on (gridNew (gridAt card)) (withGrid card) h (r .1) in
     let (d, made, t) = went-on (decimationNew g (u32At card 44)) (λ d. withHeader card g (headerAt card d)) h s in
     header-accepted card g d h (ltb-false _ _ (p .0)) made t

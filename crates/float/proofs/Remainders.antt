@@ -14,7 +14,7 @@ use lib.Pow.{pow-pos, pow-add, pow-mono, pow-lt, shl-lt}
 use lib.IntN.{pos}
 use lib.Ieee.{Float, nan, inf, fin, Format, binary64, prec, low, up, down, hid, top, rem, div, mul, neg, round, unlike, odd, ofFields, ofBits, ofInt, fits, toBits, inFloat}
 use lib.Ieee.Bits.{ofBits-toBits}
-use Rattle.float.specs.Remainder.{PatternUnits, signed}
+use Rattle.float.specs.private.Remainder.{PatternUnits, signed}
 use Rattle.float.proofs.Patterns.{pattern-nan}
 use Rattle.float.proofs.Values.{value-unique}
 use lib.Ieee.Fits.{down-pos, up-pos, round-fits}

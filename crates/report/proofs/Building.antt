@@ -5,9 +5,9 @@ use mathlib.Core.List.{List}
 use Prim.Native.Nat.{ℕ, zero, suc, _+_, _-_, _*_, _≤_, _<_}
 use native.Mathlib.Numerals.{add-one}
 use native.Mathlib.Omega.{arith}
-use borrow.Author.Tests.{eq-eqb, ne-eqb, le-ltb}
 use lib.ListN.{length, length-replicate}
 use Rattle.refusal.specs.Refusal.{Outcome, answered, refused, passed}
+use Rattle.refusal.proofs.Chains.{never, answered-same}
 use Rattle.raster.specs.Raster.{cellsOf}
 use Rattle.grid.specs.declared.Grid.{Grid}
 use Rattle.table.specs.Place.{tableLength}
@@ -15,9 +15,9 @@ use Rattle.decimation.specs.declared.Decimation.{Decimation}
 use Rattle.decimation.specs.Decimation.{coarseGrid, decimationOf}
 use Rattle.builder.specs.declared.Builder.{Builder}
 use Rattle.builder.specs.Build.{Buffers, lengthsOf, validBuilder, firstBuilder, clearedBuffers, startRefusal, startCall}
-use Rattle.builder.specs.Build.{rowRefusal, rowCall, builderAfter, buffersAfter, finishRefusal, finishCall}
+use Rattle.builder.specs.Build.{rowCall, builderAfter, buffersAfter, finishCall}
 use Rattle.builder.specs.private.Room.{Sized}
-use Rattle.builder.proofs.Builders.{standing, Taken, Complete, lent-goes-on, start-goes-on, row-goes-on, finish-goes-on, first-valid, next-valid}
+use Rattle.builder.proofs.Builders.{standing, Taken, Complete, lent-goes-on, start-goes-on, row-passes, finish-passes, first-valid, next-valid}
 use Rattle.builder.proofs.Kept.{sized-cleared, sized-after}
 use Rattle.card.specs.declared.Header.{Header}
 use Rattle.card.specs.Card.{rowAt}
@@ -26,26 +26,6 @@ use Rattle.report.specs.Printed.{emptyBuffers, builtFrom}
 use Rattle.report.specs.private.Steps.{wholeBuild, Finished}
 use Rattle.report.proofs.RowWords.{row-length}
 use Rattle.report.proofs.Sizes.{made}
-
--- ---- outcomes (these two belong to refusal/proofs/Chains)
-
-pub answered-same : {A : Type 0} {a b : A} → answered a ≡ answered b → a ≡ b
-answered-same e = cc
-
-pub never : {A B : Type 0} {a : A} {n : ℕ} → refused n ≡ answered a → B
-never e = let z : _≡_ {A = ℕ} 0 1 = cc in absurd (omega arith)
-
--- ---- calls that pass (these two belong to builder/proofs/Builders, beside `row-passed` and `finish-passed`)
-
-row-passes : (b : Builder) (row : List ℕ) (m : Buffers) → Taken b row m → rowRefusal b (length row) (lengthsOf m) ≡ 0
-row-passes b row m t =
-    let on : b .rows ≡ b .decimation .source .height → ⊥ = λ e. omega (arith, t .left) in
-    row-goes-on b (length row) (lengthsOf m) (t .valid) (t .lengths)
-    ∙ rw (ne-eqb (b .rows) (b .decimation .source .height) on, eq-eqb (length row) (b .decimation .source .width) (t .size))
-
-finish-passes : (b : Builder) (m : Buffers) → Complete b m → finishRefusal b (lengthsOf m) ≡ 0
-finish-passes b m t =
-    finish-goes-on b (lengthsOf m) (t .valid) (t .lengths) ∙ rw (le-ltb (b .rows) (b .decimation .source .height) (omega (arith, t .rows)))
 
 -- ---- the buffers that a build begins with
 

@@ -9,7 +9,7 @@ use lib.ListN.{length}
 use lib.Ieee.{Float, lt}
 use lib.Ieee.Scale.{finite}
 use Rattle.refusal.specs.Refusal.{answered, refused, first, passed, outcome, columnOffGrid, radiusNotFinite, radiusBelowZero, rowOffGrid, columnsDontClose}
-use Rattle.refusal.proofs.Chains.{first-passed, answered-passed}
+use Rattle.refusal.proofs.Chains.{first-passed, answered-passed, refused-alike, never}
 use Rattle.float.specs.Float.{f64zero}
 use Rattle.geodesy.specs.declared.RadiusKm.{RadiusKm}
 use Rattle.geodesy.specs.Radius.{radiusRefusal, radiusNew, validRadius}
@@ -17,7 +17,6 @@ use Rattle.grid.specs.declared.Grid.{Grid}
 use Rattle.grid.specs.declared.Row.{Row}
 use Rattle.grid.specs.declared.Col.{Col}
 use Rattle.grid.specs.Lookup.{closes}
-use Rattle.decimation.proofs.Outcomes.{refused-alike}
 use Rattle.kernel.specs.declared.Kernel.{Kernel}
 use Rattle.kernel.specs.Kernel.{kernelRefusal, kernelOf, kernelNew}
 use Rattle.kernel.proofs.Rules.{kernel-passed}
@@ -26,7 +25,6 @@ use Rattle.circle.proofs.Made.{only-16, own-sum}
 use Rattle.card.specs.declared.CardCircle.{CardCircle}
 use Rattle.report.specs.Printed.{circleChecks, circleCount}
 use Rattle.report.specs.private.Steps.{Countable}
-use Rattle.report.proofs.Building.{never}
 
 -- two checks that refuse do so whatever comes after them
 refused-first : {A B : Type 0} (a b : Bool) (x y rest n : ℕ) (p : A) (q : B) → refused n ≡ outcome (first a x (first b y passed)) p

@@ -8,6 +8,7 @@ use lib.Dec.{T, ltb, leb, lit<}
 use lib.Ieee.{Float, lt}
 use lib.Ieee.Scale.{finite}
 use lib.ListN.{length, length-append}
+use Rattle.refusal.proofs.Chains.{answered-same}
 use Rattle.refusal.specs.Refusal.{answered, first, passed, outcome, radiusNotFinite, radiusBelowZero, rowOffGrid, columnsDontClose, columnOffGrid}
 use Rattle.float.specs.Float.{f64zero}
 use Rattle.raster.specs.declared.CellTallies.{CellTallies}
@@ -27,7 +28,7 @@ use Rattle.card.specs.private.Accepted.{Accepted}
 use Rattle.report.specs.Printed.{circleChecks, circleCount, circleText, circlesText, reportText}
 use Rattle.report.specs.private.Steps.{wholeBuild, Finished, Printed}
 use Rattle.report.proofs.Sizes.{sizes}
-use Rattle.report.proofs.Building.{answered-same, all-tallied}
+use Rattle.report.proofs.Building.{all-tallied}
 
 -- ---- lengths
 

@@ -12,6 +12,7 @@ use lib.Ieee.Exact.{HasValue}
 use lib.Ieee.Fits.{down-pos}
 use lib.Ieee.Scale.{finite}
 use Rattle.refusal.specs.Refusal.{Outcome, answered, refused, inNoCell, notItsMakers}
+use Rattle.refusal.proofs.Chains.{never, went-past}
 use Rattle.refusal.proofs.Tests.{both}
 use Rattle.float.specs.Float.{f64zero, f64of, indexBelow}
 use Rattle.float.specs.declared.Index.{Index}
@@ -21,17 +22,6 @@ use Rattle.grid.specs.declared.Grid.{Grid}
 use Rattle.grid.specs.Grid.{validGrid, limit}
 use Rattle.grid.specs.Lookup.{rowOfLat, colOfLon, cellAtIndex, cellContaining}
 use Rattle.grid.proofs.Valid.{grid-sized}
-
--- ---- what answers is not refused
-
-pub never : {A P : Type 0} {n : ℕ} {a : A} → refused n ≡ answered a → P
-never e =
-    let z : _≡_ {A = ℕ} 0 1 = cc in
-    absurd (omega arith)
-
-got-past : {A : Type 0} (fails : Bool) (n : ℕ) (o : Outcome A) (a : A) → cond fails (refused n) o ≡ answered a → (fails ≡ false) × (o ≡ answered a)
-got-past true n o a e = never e
-got-past false n o a e = (refl, e)
 
 -- ---- the whole part of a float
 
@@ -83,8 +73,8 @@ pub record CellOn (g : Grid) (row col : ℕ) : Type 0 where
 pub cell-on : (g : Grid) (at : LatLon) (row col : ℕ) → cellContaining g at ≡ answered (row, col) → CellOn g row col
 unfolding cellContaining rowOfLat colOfLon
 cell-on g at row col e =
-    let p = got-past (not (validGrid g)) notItsMakers _ _ e in
-    let q = got-past (not (finite (at .lat) && finite (at .lon))) inNoCell _ _ (p .1) in
+    let p = went-past (not (validGrid g)) notItsMakers _ _ e in
+    let q = went-past (not (finite (at .lat) && finite (at .lon))) inNoCell _ _ (p .1) in
     let v = not-false (validGrid g) (p .0) in
     let f = both-found (rowOfLat g (at .lat)) (colOfLon g (at .lon)) row col (q .1) in
     let s = grid-sized g v in

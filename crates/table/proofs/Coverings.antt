@@ -5,7 +5,8 @@ use mathlib.Core.List.{List}
 use borrow.Author.Tests.{lt-ltb}
 use lib.ListN.{length}
 use lib.Ieee.{Float, binary64, sub, le}
-use Rattle.refusal.specs.Refusal.{Outcome, answered, refused, andThen}
+use Rattle.refusal.specs.Refusal.{Outcome, answered}
+use Rattle.refusal.proofs.Chains.{went-on}
 use Rattle.geodesy.specs.Sphere.{f64p360}
 use Rattle.grid.specs.declared.Grid.{Grid}
 use Rattle.grid.specs.Grid.{tolerance}
@@ -19,14 +20,8 @@ use Rattle.table.specs.declared.Window.{Window}
 use Rattle.table.specs.Rectangle.{rowBand, spanOnGrid}
 use Rattle.table.specs.Extent.{pointAt, coveringColumns, covering}
 use Rattle.table.proofs.Bands.{band-ordered, band-below}
-use Rattle.table.proofs.Cells.{cell-on, never}
+use Rattle.table.proofs.Cells.{cell-on}
 use Rattle.table.proofs.Checks.{OnGrid}
-
--- a call that went on from another's answer
-went-on : {A B P : Type 0} (o : Outcome A) (next : A → Outcome B) (b : B) → andThen o next ≡ answered b
-    → ((a : A) → o ≡ answered a → next a ≡ answered b → P) → P
-went-on (answered a) next b e k = k a refl e
-went-on (refused n) next b e k = never e
 
 either : {A P : Type 0} (t : Bool) (o u : Outcome A) (a : A) → cond t o u ≡ answered a → (o ≡ answered a → P) → (u ≡ answered a → P) → P
 either true o u a e k l = k e
@@ -45,27 +40,31 @@ module _ (g : Grid) (w : Window) (rows : RowBand) (cols : ColSpan) where
       let p = parts r rows FullTurn cols f in
       (p .0, rw (← p .1)))
       (λ f.
-      went-on (cellContaining g (pointAt (w .north) (w .west))) _ _ f (λ a ea fa.
-      went-on (cellContaining g (pointAt (w .north) (w .east))) _ _ fa (λ b eb fb.
-      let p = parts r rows (Through (record { 0 = a .1 }) (record { 0 = b .1 })) cols fb in
-      let west = cell-on g _ (a .0) (a .1) ea .col-on in
-      let east = cell-on g _ (b .0) (b .1) eb .col-on in
-      (p .0, rw (← p .1, lt-ltb (a .1) (g .width) west, lt-ltb (b .1) (g .width) east)))))
+      let west = went-on (cellContaining g (pointAt (w .north) (w .west))) _ _ f in
+      let east = went-on (cellContaining g (pointAt (w .north) (w .east))) _ _ (west .2) in
+      let a = west .0 in
+      let b = east .0 in
+      let p = parts r rows (Through (record { 0 = a .1 }) (record { 0 = b .1 })) cols (east .2) in
+      let a-on = cell-on g _ (a .0) (a .1) (west .1) .col-on in
+      let b-on = cell-on g _ (b .0) (b .1) (east .1) .col-on in
+      (p .0, rw (← p .1, lt-ltb (a .1) (g .width) a-on, lt-ltb (b .1) (g .width) b-on)))
 
   -- so a rectangle call on that extent and a table of the right length is not refused
   pub covering-answered : (cells : List Float) → covering g w ≡ answered (rows, cols) → length cells ≡ tableLength (g .width) (g .height)
       → OnGrid g cells rows cols
   unfolding covering
   covering-answered cells e l =
-      went-on (cellContaining g (pointAt (w .north) (g .lon))) _ _ e (λ n en fn.
-      went-on (cellContaining g (pointAt (w .south) (g .lon))) _ _ fn (λ s es fs.
-      let p = columns-on (rowBand (n .0) (s .0)) fs in
-      let a = cell-on g _ (n .0) (n .1) en in
-      let b = cell-on g _ (s .0) (s .1) es in
+      let north = went-on (cellContaining g (pointAt (w .north) (g .lon))) _ _ e in
+      let south = went-on (cellContaining g (pointAt (w .south) (g .lon))) _ _ (north .2) in
+      let n = north .0 in
+      let s = south .0 in
+      let p = columns-on (rowBand (n .0) (s .0)) (south .2) in
+      let a = cell-on g _ (n .0) (n .1) (north .1) in
+      let b = cell-on g _ (s .0) (s .1) (south .1) in
       let held : Held g (length cells) rows cols = record {
         ordered = rw (← p .0) (band-ordered (n .0) (s .0));
         right = l;
         south = rw (← p .0) (band-below (n .0) (s .0) (g .height) (a .row-on) (b .row-on));
         columns = p .1;
       } in
-      record { valid = a .valid; held = held }))
+      record { valid = a .valid; held = held }

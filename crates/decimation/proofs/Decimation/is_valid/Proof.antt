@@ -3,9 +3,8 @@
 use mathlib.Core.Path.{sym, _∙_}
 use borrow.Author.Needs.{needs}
 use borrow.Author.Tests.{not-true, not-false}
-use Rattle.refusal.proofs.Chains.{answered-passed}
+use Rattle.refusal.proofs.Chains.{answered-passed, refused-fails}
 use Rattle.decimation.specs.Decimation.{coarseGrid, factorRefusal, validDecimation}
-use Rattle.decimation.proofs.Outcomes.{refused-fails}
 use Rattle.decimation.proofs.Decimation.is_valid.Statement.{statement}
 use Rattle.decimation.proofs.Decimation.is_valid.Tie as tie
 

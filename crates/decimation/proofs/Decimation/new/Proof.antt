@@ -3,8 +3,7 @@
 use mathlib.Core.Path.{sym, _∙_}
 use borrow.Author.Tests.{not-false}
 use Rattle.decimation.specs.Decimation.{coarseGrid, factorRefusal, decimationNew}
-use Rattle.refusal.proofs.Chains.{answered-passed}
-use Rattle.decimation.proofs.Outcomes.{refused-alike}
+use Rattle.refusal.proofs.Chains.{answered-passed, refused-alike}
 use borrow.Author.Needs.{needs}
 use Rattle.decimation.proofs.Decimation.new.Statement.{statement}
 use Rattle.decimation.proofs.Decimation.new.Tie as tie

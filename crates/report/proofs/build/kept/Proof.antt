@@ -1,7 +1,7 @@
 -- `report::build::kept` meets its contract.
 -- Assumes nothing.
-use Rattle.report.proofs.Building.{answered-same, never}
 use borrow.Author.Needs.{needs}
+use Rattle.refusal.proofs.Chains.{answered-same, never}
 use Rattle.report.proofs.build.kept.Statement.{statement}
 use Rattle.report.proofs.build.kept.Tie as tie
 

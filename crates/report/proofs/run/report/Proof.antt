@@ -1,7 +1,8 @@
 -- `report::run::report` meets its contract.
 -- Assumes nothing.
+use Rattle.refusal.proofs.Chains.{never}
 use Rattle.report.proofs.Sizes.{front-inside, front-length, zeros-length, sizes, emptied-table}
-use Rattle.report.proofs.Building.{never, table-filled}
+use Rattle.report.proofs.Building.{table-filled}
 use Rattle.report.proofs.Reported.{report-printed}
 use borrow.Author.Needs.{needs}
 use Rattle.report.proofs.run.report.Statement.{statement}

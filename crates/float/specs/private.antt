@@ -1,0 +1,2 @@
+-- What private functions of `float` go by.
+pub mod Remainder

@@ -1,0 +1,2 @@
+-- What private functions of `sqrt` go by.
+pub mod Steps
