@@ -98,10 +98,6 @@ length-handedOn acc coarse k n a c = go (eqb k 1)
     go true = length-take-le n acc a
     go false = length-take-le n coarse c
 
-pub handed-at-most : (acc coarse : List Float) (k n : ℕ) → length (handedOn acc coarse k n) ≤ n
-unfolding handedOn
-handed-at-most acc coarse k n = omega (arith, length-take n (cond (eqb k 1) acc coarse))
-
 -- the row handed on, with the coarse row just filled, is every factor-th cell of acc
 pub getD-handedOn : (acc coarse : List Float) (k n c : ℕ) → n ≤ length coarse → c < n → getD (handedOn acc (coarseFilled acc coarse k) k n) c nan ≡ getD acc (c * k) nan
 unfolding handedOn coarseFilled

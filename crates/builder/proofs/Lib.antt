@@ -1,6 +1,5 @@
--- Laws that belong to no one function, and worked examples.
+-- Laws that belong to no one function.
 pub mod HandedRows
 pub mod Builders
 pub mod Kept
 mod Calls
-pub mod Examples

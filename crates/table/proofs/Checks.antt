@@ -78,14 +78,6 @@ module _ (g : Grid) (cells : List Float) (rows : RowBand) (cols : ColSpan) where
       let h = o .held in
       simp (o .valid, le-leb _ _ (h .ordered), right-table g cells (h .right), lt-leb _ _ (h .south), h .columns)
 
-  -- what is answered has passed, and is the sum
-  pub population-answered : (people : Float) → rectanglePopulation g cells rows cols ≡ answered people
-      → OnGrid g cells rows cols × (rectangleSum (g .width) cells (rows .north .0) (rows .south .0) cols ≡ people)
-  unfolding rectanglePopulation
-  population-answered people e =
-      let p = answered-passed (rectangleRefusal g cells rows cols) _ people e in
-      (on-grid (p .0), p .1)
-
 -- both columns of a span are the grid's
 span-columns : (width : ℕ) (west east : Col) → spanOnGrid width (Through west east) ≡ true → (west .0 < width) × (east .0 < width)
 span-columns width west east e =
