@@ -1,5 +1,5 @@
 // The readable text of a card, from which `make_card` makes the card again.
-use crate::{circles_inside, float, header, rows_inside, word};
+use crate::answer_card::{circles_inside, float, header, rows_inside, word};
 use std::fmt::Write as _;
 
 /// Fields that the box refuses have a text too; a card whose header or sections are not there has none.

@@ -1,7 +1,8 @@
 // Many generated cards through the Rust and through what is to print the same.
+use crate::answer_card::{answer, header, Check, Refused};
 use crate::generate_cards::{card, Kind};
 use crate::progress::Progress;
-use crate::{answer, card_text, header, made, Check, Refused};
+use crate::{card_text, made};
 use std::collections::BTreeMap;
 use std::fs::{self, File};
 use std::io::Write;

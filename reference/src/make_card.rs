@@ -1,5 +1,5 @@
 // A card from readable text. docs/CARD.md has the form: a line for each field, row and circle; `#` starts a comment.
-use crate::{answer, header, Check, Refused};
+use crate::answer_card::{answer, header, Check, Refused};
 use std::collections::BTreeMap;
 
 /// What is wrong in a text, and on which line.

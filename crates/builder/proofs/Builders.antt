@@ -22,7 +22,8 @@ use Rattle.decimation.specs.Decimation.{coarseGrid, factorRefusal, decimationOf
 use Rattle.decimation.proofs.Factors.{Framed, framed, decimation-valid}
 use Rattle.builder.specs.declared.Builder.{Builder}
 use Rattle.builder.specs.declared.Lengths.{Lengths}
-use Rattle.builder.specs.Build.{Buffers, lengthsOf, rightLengths, lentRefusal, validBuilder, startRefusal, rowRefusal, finishRefusal, firstBuilder, builderAfter}
+use Rattle.builder.specs.Build.{Buffers, lengthsOf, rightLengths, lentRefusal, validBuilder, startRefusal, rowRefusal, finishRefusal, firstBuilder}
+use Rattle.builder.specs.Build.{builderAfter}
 use Rattle.builder.specs.private.Room.{Sized}
 
 -- ---- a builder
@@ -141,7 +142,8 @@ start-passed g k m e =
 
 -- ---- what is left of a call's checks, once the first of them pass
 
-pub start-goes-on : (g : Grid) (k : ℕ) (lent : Lengths) → validGrid g ≡ true → factorRefusal g k ≡ 0 → startRefusal g k lent ≡ lentRefusal (decimationOf g k) lent passed
+pub start-goes-on : (g : Grid) (k : ℕ) (lent : Lengths) → validGrid g ≡ true → factorRefusal g k ≡ 0
+    → startRefusal g k lent ≡ lentRefusal (decimationOf g k) lent passed
 unfolding startRefusal
 start-goes-on g k lent v f = rw (v, f)
 

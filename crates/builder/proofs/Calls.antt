@@ -24,7 +24,8 @@ use Rattle.decimation.proofs.Factors.{decimation-made}
 use Rattle.sweep.specs.Sweep.{accAfter, corrAfter}
 use Rattle.builder.specs.declared.Builder.{Builder}
 use Rattle.builder.specs.Rows.{coarseFilled, handedOn}
-use Rattle.builder.specs.Build.{Buffers, buffers, lengthsOf, lentRefusal, startRefusal, firstBuilder, clearedBuffers, startCall, rowRefusal, builderAfter, coarseAfter, tableAfter, buffersAfter, rowCall, rowLeft, finishRefusal, builtTable, finishCall}
+use Rattle.builder.specs.Build.{Buffers, buffers, lengthsOf, lentRefusal, startRefusal, firstBuilder, clearedBuffers, startCall, rowRefusal}
+use Rattle.builder.specs.Build.{builderAfter, coarseAfter, tableAfter, buffersAfter, rowCall, rowLeft, finishRefusal, builtTable, finishCall}
 use Rattle.builder.specs.private.Room.{Room}
 use Rattle.builder.proofs.HandedRows.{zeros-handed-on}
 use Rattle.builder.proofs.Builders.{lent-passed, start-goes-on, finish-passed, row-passed}
@@ -39,7 +40,8 @@ unfolding decimationNew startCall startRefusal
 start-refused g k nodata m n e = go (validGrid g) (factorRefusal g k) _ _ _ _ e
   where
     go : (v : Bool) (f r : ℕ) (a : Decimation) (b : Builder) (x : Buffers) → refused n ≡ outcome (first (not v) notItsMakers f) a
-        → (refused n ≡ outcome (first (not v) notItsMakers (unlessRefused f r f)) b) × (m ≡ unlessRefused (first (not v) notItsMakers (unlessRefused f r f)) x m)
+        → (refused n ≡ outcome (first (not v) notItsMakers (unlessRefused f r f)) b) ×
+        (m ≡ unlessRefused (first (not v) notItsMakers (unlessRefused f r f)) x m)
     go false f r a b x e = (ap refused (let z : n ≡ notItsMakers = cc in z), refl)
     go true zero r a b x e = let z : _≡_ {A = ℕ} 0 1 = cc in absurd (omega arith)
     go true (suc f) r a b x e = (ap refused (let z : n ≡ suc f = cc in z), refl)
@@ -50,13 +52,16 @@ pub made-again : (g : Grid) (k : ℕ) (d : Decimation) → answered d ≡ decima
 made-again g k d e = let p = decimation-made g k d (sym e) in rw (p .is) (refl, refl, sym e ∙ ap answered (p .is))
 
 -- with a decimation, n being the number that the lengths give
-module _ (d : Decimation) (nodata : ℕ) (m : Buffers) (e : decimationNew (d .source) (d .factor) ≡ answered d) (n : ℕ) (en : n ≡ lentRefusal d (lengthsOf m) passed) where
+module _ (d : Decimation) (nodata : ℕ) (m : Buffers) (e : decimationNew (d .source) (d .factor) ≡ answered d) (n : ℕ)
+    (en : n ≡ lentRefusal d (lengthsOf m) passed) where
   number : n ≡ startRefusal (d .source) (d .factor) (lengthsOf m)
   number =
       let p = decimation-made (d .source) (d .factor) d e in
-      en ∙ ap (λ (x : Decimation). lentRefusal x (lengthsOf m) passed) (p .is) ∙ sym (start-goes-on (d .source) (d .factor) (lengthsOf m) (p .source) (p .factored))
+      en ∙ ap (λ (x : Decimation). lentRefusal x (lengthsOf m) passed) (p .is)
+      ∙ sym (start-goes-on (d .source) (d .factor) (lengthsOf m) (p .source) (p .factored))
 
-  pub begin-refused : (n ≡ 0 → ⊥) → (refused n ≡ startCall (d .source) (d .factor) nodata m .answer) × (m ≡ startCall (d .source) (d .factor) nodata m .buffers)
+  pub begin-refused : (n ≡ 0 → ⊥)
+      → (refused n ≡ startCall (d .source) (d .factor) nodata m .answer) × (m ≡ startCall (d .source) (d .factor) nodata m .buffers)
   unfolding startCall
   begin-refused h = rw (← number) (refused-by n (firstBuilder (d .source) (d .factor) nodata) h, sym (left-alone n _ m h))
 
@@ -70,23 +75,32 @@ module _ (d : Decimation) (nodata : ℕ) (m : Buffers) (e : decimationNew (d .so
       → corr ≡ replicate (length (m .corr)) f64zero
       → zeros ≡ handedOn acc (m .coarse) 1 (d .grid .width + 1)
       → table ≡ laidRow (d .grid .width) (m .table) 0 zeros
-      → (answered (record { decimation = d; nodata = nodata; rows = 0; digest = firstDigest; tallies = noTallies }) ≡ startCall (d .source) (d .factor) nodata m .answer)
+      → (answered (record {
+        decimation =
+            d;
+        nodata = nodata;
+        rows = 0;
+        digest = firstDigest;
+        tallies = noTallies;
+      }) ≡ startCall (d .source) (d .factor) nodata m .answer)
       × (buffers acc corr (m .coarse) table ≡ startCall (d .source) (d .factor) nodata m .buffers)
   unfolding startCall firstBuilder clearedBuffers
   begun z acc corr zeros table ea ec ez et =
       let p = decimation-made (d .source) (d .factor) d e in
       let own = ap (λ (x : Decimation). x .grid) (p .is) in
       let w = acc-wide d (length (m .acc)) (length (m .coarse)) (length (m .table)) (begin-room z) in
-      rw (← number, z)
-      (ap (λ (x : Decimation). answered (record { decimation = x; nodata = nodata; rows = 0; digest = firstDigest; tallies = noTallies })) (p .is),
-      rw (← own, et, ez, ea, ec, add-one (d .grid .width), zeros-handed-on (suc (d .grid .width)) (length (m .acc)) (m .coarse) w))
+      rw (← number, z) (
+        ap (λ (x : Decimation). answered (record { decimation = x; nodata = nodata; rows = 0; digest = firstDigest; tallies = noTallies })) (p .is),
+        rw (← own, et, ez, ea, ec, add-one (d .grid .width), zeros-handed-on (suc (d .grid .width)) (length (m .acc)) (m .coarse) w),
+      )
 
 -- ---- a row, n being the number that its checks give
 
 module _ (b : Builder) (row : List ℕ) (m : Buffers) (n : ℕ) (e : n ≡ rowRefusal b (length row) (lengthsOf m)) where
   pub row-refused : (n ≡ 0 → ⊥) → (refused n ≡ rowCall b row m .answer) × (row ≡ rowLeft b row m) × (m ≡ rowCall b row m .buffers)
   unfolding rowCall rowLeft
-  row-refused h = rw (← e) (refused-by n (builderAfter b row) h, sym (left-alone n (sanitisedRow (b .nodata) row) row h), sym (left-alone n (buffersAfter b row m) m h))
+  row-refused h =
+      rw (← e) (refused-by n (builderAfter b row) h, sym (left-alone n (sanitisedRow (b .nodata) row) row h), sym (left-alone n (buffersAfter b row m) m h))
 
   pub row-taken : (b' : Builder) (row' : List ℕ) (m' : Buffers) → n ≡ 0
       → b' ≡ builderAfter b row

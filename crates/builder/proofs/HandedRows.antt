@@ -99,9 +99,11 @@ length-handedOn acc coarse k n a c = go (eqb k 1)
     go false = length-take-le n coarse c
 
 -- the row handed on, with the coarse row just filled, is every factor-th cell of acc
-pub getD-handedOn : (acc coarse : List Float) (k n c : ℕ) → n ≤ length coarse → c < n → getD (handedOn acc (coarseFilled acc coarse k) k n) c nan ≡ getD acc (c * k) nan
+pub getD-handedOn : (acc coarse : List Float) (k n c : ℕ) → n ≤ length coarse → c < n
+    → getD (handedOn acc (coarseFilled acc coarse k) k n) c nan ≡ getD acc (c * k) nan
 unfolding handedOn coarseFilled
-getD-handedOn acc coarse k n c l h = getD-take n (cond (eqb k 1) acc (cond (eqb k 1) coarse (sampled acc k 0 (length coarse)))) c nan h ∙ go (eqb k 1) (eqb-true k 1)
+getD-handedOn acc coarse k n c l h =
+    getD-take n (cond (eqb k 1) acc (cond (eqb k 1) coarse (sampled acc k 0 (length coarse)))) c nan h ∙ go (eqb k 1) (eqb-true k 1)
   where
     go : (t : Bool) → (t ≡ true → k ≡ 1) → getD (cond t acc (cond t coarse (sampled acc k 0 (length coarse)))) c nan ≡ getD acc (c * k) nan
     go true e = rw (e refl, mul-one c)

@@ -59,7 +59,8 @@ sized-cleared d m l =
       acc = length-replicate (length (m .acc)) f64zero ∙ l .acc;
       corr = length-replicate (length (m .corr)) f64zero ∙ l .corr;
       coarse = l .coarse;
-      table = length-laid (d .grid .width) (d .grid .height) 0 (m .table) (replicate n f64zero) (length-replicate n f64zero) (l .table) (omega arith) ∙ l .table;
+      table =
+          length-laid (d .grid .width) (d .grid .height) 0 (m .table) (replicate n f64zero) (length-replicate n f64zero) (l .table) (omega arith) ∙ l .table;
     }
 
 module _ (b : Builder) (row : List ℕ) (m : Buffers) (t : Taken b row m) where

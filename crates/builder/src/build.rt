@@ -5,7 +5,8 @@ ghost use Rattle.float.specs.Float.{f64zero};
 ghost use Rattle.refusal.specs.Refusal.{answered};
 ghost use Rattle.raster.specs.Raster.{sanitisedRow};
 ghost use Rattle.decimation.specs.Decimation.{decimationNew};
-ghost use Rattle.builder.specs.Build.{buffers, lengthsOf, builderOutcome, finishOutcome, startCall, rowRefusal, builderAfter, buffersAfter, rowCall, rowLeft, finishCall};
+ghost use Rattle.builder.specs.Build.{buffers, lengthsOf, builderOutcome, finishOutcome, startCall, rowRefusal, builderAfter, buffersAfter, rowCall};
+ghost use Rattle.builder.specs.Build.{rowLeft, finishCall};
 use crate::Builder;
 use crate::BuilderAnswer;
 use crate::BuiltTable;
@@ -41,9 +42,11 @@ impl Builder {
         table: &mut [f64],
     ) -> BuilderAnswer
         requires { ⌜ decimationNew (d .source) (d .factor) ≡ answered d ⌝ }
-        ensures { λ r. ⌜ (builderOutcome r ≡ startCall (d .source) (d .factor) nodata (buffers (now (acc .entry)) (now (corr .entry)) (now (coarse .entry)) (now (table .entry))) .answer)
+        ensures { λ r. ⌜ (builderOutcome r ≡ startCall (d .source) (d .factor) nodata
+            (buffers (now (acc .entry)) (now (corr .entry)) (now (coarse .entry)) (now (table .entry))) .answer)
             × (buffers (now (acc .exit)) (now (corr .exit)) (now (coarse .exit)) (now (table .exit))
-            ≡ startCall (d .source) (d .factor) nodata (buffers (now (acc .entry)) (now (corr .entry)) (now (coarse .entry)) (now (table .entry))) .buffers) ⌝ }
+            ≡ startCall (d .source) (d .factor) nodata
+            (buffers (now (acc .entry)) (now (corr .entry)) (now (coarse .entry)) (now (table .entry))) .buffers) ⌝ }
     {
         let lent = Lengths {
             acc: acc.len(),
@@ -57,7 +60,12 @@ impl Builder {
         }
         clear(acc);
         clear(corr);
-        lay(table, d.grid, 0, decimated(acc, coarse, 1, d.grid.width as usize + 1));
+        lay(
+            table,
+            d.grid,
+            0,
+            decimated(acc, coarse, 1, d.grid.width as usize + 1),
+        );
         BuilderAnswer::Accepted(Builder {
             decimation: d,
             nodata,
@@ -76,7 +84,8 @@ impl Builder {
         coarse: &mut [f64],
         table: &mut [f64],
     ) -> BuilderAnswer
-        ensures { λ r. ⌜ (builderOutcome r ≡ startCall source factor nodata (buffers (now (acc .entry)) (now (corr .entry)) (now (coarse .entry)) (now (table .entry))) .answer)
+        ensures { λ r. ⌜ (builderOutcome r ≡ startCall source factor nodata
+            (buffers (now (acc .entry)) (now (corr .entry)) (now (coarse .entry)) (now (table .entry))) .answer)
             × (buffers (now (acc .exit)) (now (corr .exit)) (now (coarse .exit)) (now (table .exit))
             ≡ startCall source factor nodata (buffers (now (acc .entry)) (now (corr .entry)) (now (coarse .entry)) (now (table .entry))) .buffers) ⌝ }
     {
@@ -123,7 +132,8 @@ impl Builder {
         coarse: &mut [f64],
         table: &mut [f64],
     ) -> BuilderAnswer
-        ensures { λ r. ⌜ (builderOutcome r ≡ rowCall self (now (row .entry)) (buffers (now (acc .entry)) (now (corr .entry)) (now (coarse .entry)) (now (table .entry))) .answer)
+        ensures { λ r. ⌜ (builderOutcome r ≡ rowCall self (now (row .entry))
+            (buffers (now (acc .entry)) (now (corr .entry)) (now (coarse .entry)) (now (table .entry))) .answer)
             × (now (row .exit) ≡ rowLeft self (now (row .entry)) (buffers (now (acc .entry)) (now (corr .entry)) (now (coarse .entry)) (now (table .entry))))
             × (buffers (now (acc .exit)) (now (corr .exit)) (now (coarse .exit)) (now (table .exit))
             ≡ rowCall self (now (row .entry)) (buffers (now (acc .entry)) (now (corr .entry)) (now (coarse .entry)) (now (table .entry))) .buffers) ⌝ }

@@ -35,12 +35,7 @@ fn fill_coarse(coarse: &mut [f64], acc: &[f64], factor: usize)
 
 // The row handed on: the accumulator itself at factor 1, else the coarse row. A prefix sum over blocks and one over
 // cells agree at every block's corner, so nothing is summed again.
-pub(crate) fn decimated<'a>(
-    acc: &'a [f64],
-    coarse: &'a [f64],
-    factor: usize,
-    n: usize,
-) -> &'a [f64]
+pub(crate) fn decimated<'a>(acc: &'a [f64], coarse: &'a [f64], factor: usize, n: usize) -> &'a [f64]
     requires { ⌜ (n ≤ length (now acc)) × (n ≤ length (now coarse)) ⌝ }
     ensures { λ r. ⌜ now r ≡ handedOn (now (acc .entry)) (now (coarse .entry)) factor n ⌝ }
 {

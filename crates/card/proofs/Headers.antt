@@ -63,7 +63,8 @@ header-accepted card g d h whole made e =
     let q = first-passed (tableTooLarge g) cardTooLarge (first (not (sectionsInside card x)) cardEndsEarly passed) tt (p .0) in
     let r = first-passed (not (sectionsInside card x)) cardEndsEarly passed tt (q .1) in
     let from = decimation-made g (u32At card 44) d made .is in
-    let s = both (inside card (x .«rows_at») (4 * (d .source .width * d .source .height))) (inside card (x .«circles_at») (16 * x .circles)) (not-false _ (r .0)) in
+    let rows = inside card (x .«rows_at») (4 * (d .source .width * d .source .height)) in
+    let s = both rows (inside card (x .«circles_at») (16 * x .circles)) (not-false _ (r .0)) in
     subst (λ (y : Header). Accepted card y) (p .1)
     record {
       whole = whole;

@@ -1,3 +1,2 @@
 -- The theorem that covers the table.
-mod Example
 pub mod Table

@@ -1,19 +1,26 @@
 -- Document 01's [P] cases: the definitions give what the paper says, in every row of the table. Assumes nothing.
 use mathlib.Core.Path.{_≡_, refl}
 use mathlib.Core.List.{map}
-use lib.Ieee.{add, sub, mul, rem, neg, lt, le, eq, ofInt, ofBits, toBits}
-use Rattle.float.specs.Float.{remEuclid, larger}
-use Rattle.float.specs.TwoSum.{twoSum, droppedBy}
+use lib.Ieee.{sub, mul, le, ofInt, ofBits, toBits}
+use Rattle.float.specs.Float.{larger}
+use Rattle.float.specs.TwoSum.{twoSum}
 use Rattle.raster.specs.Raster.{kindOf}
 use Rattle.geodesy.specs.Radius.{radiusRefusal, validRadius, widened, widenedBy}
-use Rattle.grid.specs.Grid.{gridRefusal, gridNew, validGrid}
+use Rattle.geodesy.specs.Sphere.{wrapLon}
+use Rattle.grid.specs.Grid.{gridRefusal, gridNew, validGrid, sameGrid}
 use Rattle.grid.specs.Lookup.{colAlong, colAlongCall}
-use Rattle.table.specs.Place.{cellAt, tableLength, corner}
-use Rattle.decimation.specs.Decimation.{coarsened, factorRefusal, decimationNew}
-use Rattle.table.specs.Rectangle.{boxSum, rectangleSum, rectangleRefusal, rectanglePopulation}
-use Rattle.cases.specs.Cases.{table}
-use Rattle.cases.proofs.Example.{example-1, example-2}
+use Rattle.table.specs.Place.{corner, laidRow, rightTable}
+use Rattle.table.specs.Rectangle.{rectangleSum, rectangleRefusal, rectanglePopulation}
+use Rattle.decimation.specs.Decimation.{decimationNew, validDecimation}
+use Rattle.sweep.specs.Sweep.{takenIn, accAfter, corrAfter}
+use Rattle.builder.specs.Rows.{coarseFilled, handedOn}
+use Rattle.builder.specs.Build.{validBuilder, startRefusal, firstBuilder, clearedBuffers, startCall}
+use Rattle.builder.specs.Build.{rowRefusal, builderAfter, coarseAfter, tableAfter, buffersAfter, rowCall}
+use Rattle.cases.specs.Cases.{exampleTable, table}
 
 pub every-case : map (λ c. c .gives) table ≡ map (λ c. c .says) table
-unfolding add sub mul rem neg lt le eq ofInt ofBits toBits remEuclid larger twoSum droppedBy kindOf radiusRefusal validRadius widened widenedBy gridRefusal gridNew validGrid colAlong colAlongCall cellAt tableLength corner coarsened factorRefusal decimationNew boxSum rectangleSum rectangleRefusal rectanglePopulation
-every-case = rw (example-1, example-2)
+unfolding sub mul le ofInt ofBits toBits larger twoSum kindOf radiusRefusal validRadius widened widenedBy wrapLon gridRefusal gridNew validGrid sameGrid
+    colAlong colAlongCall corner laidRow rightTable rectangleSum rectangleRefusal rectanglePopulation decimationNew validDecimation takenIn accAfter
+    corrAfter coarseFilled handedOn validBuilder startRefusal firstBuilder clearedBuffers startCall rowRefusal builderAfter coarseAfter tableAfter
+    buffersAfter rowCall exampleTable
+every-case = refl

@@ -1,7 +1,7 @@
 -- Document 01, 'Bench cases': the [P] cases as a table. A case is what the definitions give and what the paper says, both as lists of numbers:
 -- floats as their bits, a refusal as its number, a kind of cell as its place in the record of tallies.
-use Prim.Native.Nat.{ℕ, zero, suc}
-use mathlib.Core.List.{List, [], _∷_, _++_, map}
+use Prim.Native.Nat.{ℕ, suc}
+use mathlib.Core.List.{List, [], _∷_, map}
 use lib.IntN.{negsuc}
 use lib.ListN.{replicate}
 use lib.Ieee.{Float, binary64, neg, ofBits, toBits}
@@ -11,10 +11,12 @@ use Rattle.float.specs.TwoSum.{twoSum}
 use Rattle.raster.specs.declared.CellKind.{CellKind}
 use Rattle.raster.specs.declared.CellKind.the-variants.{Nodata, Negative, Zero, Populated}
 use Rattle.raster.specs.Raster.{kindOf}
+use Rattle.raster.specs.Example.{exampleMark, firstRow, secondRow}
 use Rattle.geodesy.specs.StandIns.{f64p180}
 use Rattle.geodesy.specs.Radius.{widenedBy}
 use Rattle.grid.specs.declared.Grid.{Grid}
 use Rattle.grid.specs.Grid.{f64p90, tolerance, gridNew}
+use Rattle.grid.specs.Example.{exampleGrid}
 use Rattle.grid.specs.Lookup.{colAlongCall}
 use Rattle.builder.specs.declared.Builder.{Builder}
 use Rattle.table.specs.Place.{tableLength}
@@ -32,19 +34,6 @@ bitsOf x = toBits binary64 x
 
 -- ---- document 01's own example: 4 by 2, origin 90, −180, steps 90, −90, nodata −9999, rows 1 2 3 4 / 5 −9999 −1 0
 
-abbrev pub exampleGrid : Grid
-exampleGrid = record { width = 4; height = 2; lat = f64p90; lon = neg f64p180; «lon_step» = f64p90; «lat_step» = neg f64p90 }
-
--- −9999 as f32 bits
-abbrev pub mark : ℕ
-mark = 0xc61c_3c00
-
-abbrev pub firstRow : List ℕ
-firstRow = 0x3f80_0000 ∷ 0x4000_0000 ∷ 0x4040_0000 ∷ 0x4080_0000 ∷ []
-
-abbrev pub secondRow : List ℕ
-secondRow = 0x40a0_0000 ∷ mark ∷ 0xbf80_0000 ∷ 0 ∷ []
-
 -- the call that follows on another's builder and buffers
 abbrev pub nextOn : Outcome Builder → Buffers → List ℕ → BuilderCall
 nextOn (answered b) m row = rowCall b row m
@@ -61,7 +50,7 @@ lentFor k =
 
 -- the example's table at a factor
 unfoldable pub exampleTable : ℕ → List Float
-exampleTable k = next secondRow (next firstRow (startCall exampleGrid k mark (lentFor k))) .buffers .table
+exampleTable k = next secondRow (next firstRow (startCall exampleGrid k exampleMark (lentFor k))) .buffers .table
 
 -- ---- answers as numbers
 
@@ -95,7 +84,9 @@ abbrev pub table : List Case
 table =
     -- two_sum(2^53, 1) = (2^53, 1)
     record {
-      gives = bitsOf (twoSum (ofBits binary64 0x4340_0000_0000_0000) f64one .sum) ∷ bitsOf (twoSum (ofBits binary64 0x4340_0000_0000_0000) f64one .dropped) ∷ [];
+      gives =
+          bitsOf (twoSum (ofBits binary64 0x4340_0000_0000_0000) f64one .sum)
+          ∷ bitsOf (twoSum (ofBits binary64 0x4340_0000_0000_0000) f64one .dropped) ∷ [];
       says = 0x4340_0000_0000_0000 ∷ 0x3ff0_0000_0000_0000 ∷ [];
     }
     -- the example's table: 0 0 0 0 0 / 0 1 3 6 10 / 0 6 8 11 15
@@ -118,7 +109,7 @@ table =
     -- width 4, column 1, offset −5: 0
     ∷ record { gives = outcomeNumbers (colAlongCall exampleGrid 1 (negsuc 4)); says = 0 ∷ 0 ∷ [] }
     -- −0.0 with that nodata: zero
-    ∷ record { gives = kindNumber (kindOf mark 0x8000_0000) ∷ []; says = 2 ∷ [] }
+    ∷ record { gives = kindNumber (kindOf exampleMark 0x8000_0000) ∷ []; says = 2 ∷ [] }
     -- nodata 0.0, cell 0.0: nodata
     ∷ record { gives = kindNumber (kindOf 0 0) ∷ []; says = 0 ∷ [] }
     -- radius 5 widened by −7: 5

@@ -1,30 +1,27 @@
 -- The card's build is a counter that follows the ledger, row by row. Assumes nothing.
 use Prim.Native.Nat.{ℕ, zero, suc, _+_, _≤_, _<_}
-use native.Mathlib.Numerals.{add-one}
 use native.Mathlib.Omega.{arith}
-use mathlib.Core.Path.{_≡_, refl, sym, subst, ap, _∙_}
+use mathlib.Core.Path.{_≡_, refl, sym, ap, _∙_}
 use mathlib.Core.List.{List, [], _∷_, _++_}
 use borrow.Author.Tests.{eq-eqb, ne-eqb}
-use lib.ListN.{length, length-append, length-replicate}
-use Rattle.refusal.specs.Refusal.{answered}
+use lib.ListN.{length}
 use Rattle.grid.specs.declared.Grid.{Grid}
-use Rattle.builder.specs.Build.{Buffers, startRefusal, startCall, firstBuilder, clearedBuffers}
+use Rattle.decimation.specs.declared.Decimation.{Decimation}
 use Rattle.decimation.specs.Decimation.{coarseGrid}
-use Rattle.decimation.proofs.Factors.{Made, decimation-made}
-use Rattle.builder.proofs.Builders.{Lengths, lengths-right, Taken, start-goes-on}
+use Rattle.decimation.proofs.Factors.{decimation-made}
+use Rattle.builder.specs.Build.{startCall, firstBuilder}
+use Rattle.builder.proofs.Builders.{Taken}
+use Rattle.area.proofs.Rows.{length-snoc}
 use Rattle.ledger.specs.Ledger.{Call, row, Ledger, opened, entered, ledgerRefusal, ledgerStep, ledgerAfter}
 use Rattle.ledger.specs.Counter.{Counter}
 use Rattle.ledger.proofs.Following.{builderAt, Follows, follows-start, follows-row}
 use Rattle.card.specs.declared.Header.{Header}
-use Rattle.card.specs.Words.{wordsAt}
 use Rattle.card.specs.Card.{rowAt}
 use Rattle.card.specs.private.Accepted.{Accepted}
+use Rattle.card.proofs.Rows.{row-length}
 use Rattle.report.specs.Printed.{emptyBuffers, builtFrom}
+use Rattle.report.proofs.Building.{starts}
 use Rattle.display.specs.Display.{rowCalls, ledgerOf}
-
-words-length : (card : List ℕ) (at n : ℕ) → length (wordsAt card at n) ≡ n
-words-length card at zero = refl
-words-length card at (suc n) = ap suc (words-length card (at + 4) n)
 
 -- ---- the ledger, one call more
 
@@ -34,11 +31,15 @@ after-one-more g nodata l [] call = refl
 after-one-more g nodata l (c ∷ calls) call = after-one-more g nodata (ledgerStep g nodata l c) calls call
 
 -- a row that is the ledger's next goes in
-enters : (g : Grid) (nodata : ℕ) (l : Ledger) (r : List ℕ) → length (l .cells) < g .height → length r ≡ g .width → ledgerStep g nodata l (row r) ≡ entered nodata l r
+enters : (g : Grid) (nodata : ℕ) (l : Ledger) (r : List ℕ) → length (l .cells) < g .height → length r ≡ g .width
+    → ledgerStep g nodata l (row r) ≡ entered nodata l r
 unfolding ledgerStep ledgerRefusal
 enters g nodata l r left size = rw (ne-eqb (length (l .cells)) (g .height) (λ e. omega (arith, left)), eq-eqb (length r) (g .width) size)
 
 module _ (card : List ℕ) (h : Header) (a : Accepted card h) where
+  abbrev d : Decimation
+  d = h .decimation
+
   abbrev g : Grid
   g = h .decimation .source
 
@@ -49,46 +50,35 @@ module _ (card : List ℕ) (h : Header) (a : Accepted card h) where
   abbrev pub counterOf : ℕ → Counter
   counterOf n = record { builder = builtFrom card h n .builder; lent = builtFrom card h n .lent }
 
-  made : Made (h .decimation)
-  made = decimation-made (h .decimation) (a .made)
-
-  empty : Lengths g (coarseGrid g k) (emptyBuffers g (h .decimation .grid))
-  unfolding emptyBuffers
-  empty = rw (made .grid) (record { acc = length-replicate _ _; corr = length-replicate _ _; coarse = length-replicate _ _; table = length-replicate _ _ })
-
-  starts : startRefusal g k (emptyBuffers g (h .decimation .grid)) ≡ 0
-  starts = let m = emptyBuffers g (h .decimation .grid) in
-      rw (start-goes-on g k m (made .valid) (made .factored), lengths-right g (coarseGrid g k) m empty)
+  -- the coarse grid is the source's at the factor
+  pub own-grid : coarseGrid (h .decimation .source) (h .decimation .factor) ≡ h .decimation .grid
+  own-grid = decimation-made g k d (a .made) .grid
 
   first-row : Follows g k (h .nodata) opened (counterOf 0)
   unfolding startCall
-  first-row =
-      let m = emptyBuffers g (h .decimation .grid) in
-      let f = follows-start g k (h .nodata) m (firstBuilder g k (h .nodata)) (rw starts) in
-      rw (starts, made .grid) at f
+  first-row = rw (starts a, own-grid) at (follows-start g k (h .nodata) (emptyBuffers d) (firstBuilder g k (h .nodata)) (rw (starts a)))
 
   module _ (n : ℕ) (f : Follows g k (h .nodata) (ledgerOf card h n) (counterOf n)) (all : length (ledgerOf card h n .cells) ≡ n) (left : n < g .height) where
     abbrev l : Ledger
     l = ledgerOf card h n
 
-    size : length (rowAt card h n) ≡ g .width
-    unfolding rowAt
-    size = words-length card _ (g .width)
-
     next : ledgerOf card h (suc n) ≡ entered (h .nodata) l (rowAt card h n)
-    next = after-one-more g (h .nodata) opened (rowCalls card h n) (row (rowAt card h n)) ∙ enters g (h .nodata) l (rowAt card h n) (rw all left) size
+    next =
+        after-one-more g (h .nodata) opened (rowCalls card h n) (row (rowAt card h n))
+        ∙ enters g (h .nodata) l (rowAt card h n) (rw all left) (row-length card h n)
 
     taken : Taken (builderAt g k (h .nodata) l) (rowAt card h n) (counterOf n .lent)
-    taken = record { valid = f .valid; lengths = f .lengths; left = rw all left; size = size }
+    taken = record { valid = f .valid; lengths = f .lengths; left = rw all left; size = row-length card h n }
 
     follows-next : Follows g k (h .nodata) (ledgerOf card h (suc n)) (counterOf (suc n))
     follows-next = rw next (follows-row f taken)
 
     one-more : length (ledgerOf card h (suc n) .cells) ≡ suc n
-    one-more = rw next (length-append (l .cells) _ ∙ add-one (length (l .cells)) ∙ ap suc all)
+    one-more = rw next (length-snoc (l .cells) _ ∙ ap suc all)
 
   -- the counter follows the ledger, and n rows are in
-  pub follows : (n : ℕ) → n ≤ g .height → Follows g k (h .nodata) (ledgerOf card h n) (counterOf n) × (length (ledgerOf card h n .cells) ≡ n)
+  pub follows : (n : ℕ) → n ≤ h .decimation .source .height
+      → Follows (h .decimation .source) (h .decimation .factor) (h .nodata) (ledgerOf card h n) (counterOf n) × (length (ledgerOf card h n .cells) ≡ n)
   follows zero p = (first-row, refl)
   follows (suc n) p =
       let before = follows n (omega arith) in

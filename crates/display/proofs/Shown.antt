@@ -1,13 +1,12 @@
 -- A whole number of people up to 2 ^ 53 is shown in decimal. Assumes nothing.
-use mathlib.Core.Path.{_≡_, refl, sym, subst, _∙_, ap}
-use mathlib.Core.Bool.{Bool, true, false, cond}
-use Prim.Native.Nat.{ℕ, _*_, _%_, _^_, _≤_, _<_}
+use mathlib.Core.Path.{_≡_, refl, _∙_}
+use mathlib.Core.Bool.{true, false}
+use Prim.Native.Nat.{ℕ, _*_, _%_, _^_, _≤_}
 use native.Mathlib.Nat.{mul-mod-left, mul-one, one-mul, lt-of-le-of-lt}
 use native.Mathlib.Omega.{arith}
 use borrow.Author.Tests.{le-leb}
-use lib.Dec.{T, lit<, le→leb}
-use lib.IntN.{pos}
-use lib.Ieee.{Float, fin, binary64, up, down, rem, round, eq, ofBits, ofInt, toUnsigned, inFloat}
+use lib.Dec.{lit<, le→leb}
+use lib.Ieee.{Float, fin, binary64, up, down, rem, round, eq, ofBits, inFloat}
 use lib.Ieee.Exact.{HasValue}
 use lib.Ieee.Fits.{down-pos}
 use lib.Ieee.Scale.{round-same}
@@ -24,13 +23,10 @@ most = refl
 
 -- a whole number leaves nothing when divided by 1
 no-rest : (x : Float) (n : ℕ) → HasValue x false n 1 → rem binary64 x f64one ≡ f64zero
-unfolding rem ofBits
+unfolding rem ofBits f64units
 no-rest (fin s m e) n v =
-    let whole : m * up e * 1 % (1 * 1 * down e) ≡ 0 = rw (v .1, one-mul) (mul-mod-left n (down e)) in
-    rw (v .0, whole) (round-same binary64 false 0 (down e * 1) 0 1 (rw (mul-one (down e)) (down-pos e)) (omega arith) (omega arith) ∙ zero-is)
-  where
-    zero-is : round binary64 false 0 1 ≡ f64zero
-    zero-is = refl
+    let whole : m * up e * 1 % (1 * 1 * down e) ≡ 0 = rw (v .1, one-mul (down e)) (mul-mod-left n (down e)) in
+    rw (v .0, whole) (round-same binary64 false 0 (down e * 1) 0 1 (rw (mul-one (down e)) (down-pos e)) (omega arith) (omega arith) ∙ units-zero 0)
 
 module _ (n : ℕ) (small : n ≤ 2 ^ 53) where
   -- one notion of whole: what the ledger counts, the display takes for a count

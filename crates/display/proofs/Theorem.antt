@@ -2,30 +2,29 @@
 use Prim.Native.Nat.{ℕ, zero, suc, _^_, _≤_, _<_, zero-le}
 use native.Mathlib.Nat.{le-refl}
 use native.Mathlib.Omega.{arith}
-use mathlib.Core.Path.{_≡_, refl, sym, subst, ap, _∙_}
-use mathlib.Core.Bool.{true, not}
-use mathlib.Core.List.{List, [], _∷_, _++_}
-use borrow.Author.Tests.{not-false, leb-false, le-ltb, lt-leb}
+use mathlib.Core.Path.{_≡_, refl, sym, ap, _∙_}
+use mathlib.Core.Bool.{not}
+use mathlib.Core.List.{List, _++_}
+use borrow.Author.Tests.{leb-false}
 use lib.Dec.{leb}
-use lib.ListN.{length, replicate, length-replicate}
-use lib.Ieee.{Float, lt}
+use lib.ListN.{length, drop, replicate, length-append}
+use lib.Ieee.{lt}
 use lib.Ieee.Scale.{finite}
-use Rattle.refusal.specs.Refusal.{answered, refused, outcome, first, passed, radiusNotFinite, radiusBelowZero, rowOffGrid, columnsDontClose, columnOffGrid}
+use Rattle.refusal.specs.Refusal.{answered, refused, outcome, passed, radiusNotFinite, radiusBelowZero, rowOffGrid, columnsDontClose, columnOffGrid}
 use Rattle.refusal.proofs.Chains.{first-passed}
 use Rattle.float.specs.Float.{f64zero}
 use Rattle.exact.specs.Units.{f64units}
-use Rattle.geodesy.specs.Radius.{radiusRefusal, validRadius}
 use Rattle.geodesy.specs.declared.RadiusKm.{RadiusKm}
 use Rattle.grid.specs.declared.Grid.{Grid}
 use Rattle.grid.specs.declared.Row.{Row}
-use Rattle.grid.specs.Grid.{validGrid}
 use Rattle.grid.specs.Lookup.{closes}
+use Rattle.decimation.specs.Decimation.{coarseGrid}
 use Rattle.builder.specs.declared.Builder.{Builder}
 use Rattle.builder.specs.Build.{totalOf}
-use Rattle.decimation.specs.Decimation.{coarseGrid}
-use Rattle.decimation.proofs.Factors.{Made, decimation-made, coarse-valid}
-use Rattle.kernel.specs.Kernel.{kernelRefusal, kernelOf, halfWidths}
-use Rattle.kernel.proofs.Makers.{made-valid, valid-maker}
+use Rattle.kernel.specs.Kernel.{rowCount, kernelOf, ownWidths, halfWidths}
+use Rattle.kernel.proofs.Rules.{rows-end, widths-rule}
+use Rattle.kernel.proofs.Makers.{enough-widths}
+use Rattle.circle.proofs.Made.{own-sum}
 use Rattle.ledger.specs.Ledger.{Ledger, sumIn, WholeAndSmall}
 use Rattle.ledger.proofs.Following.{Follows}
 use Rattle.ledger.proofs.Theorem.{total-units, circle-sum-of, covered-small}
@@ -34,35 +33,22 @@ use Rattle.card.specs.declared.Header.{Header}
 use Rattle.card.specs.declared.CardCircle.{CardCircle}
 use Rattle.card.specs.Card.{readHeader, circleAt}
 use Rattle.card.specs.private.Accepted.{Accepted}
-use Rattle.report.specs.Printed.{builtFrom, circleChecks, circleCount, circleText, circlesText, printed}
 use Rattle.card.proofs.Headers.{accepted}
+use Rattle.report.specs.Printed.{Building, builtFrom, circleChecks, circleCount, circleText, circlesText, printed}
 use Rattle.display.specs.Display.{cardLedger, peopleCovered, peopleOr, circlesShown, displayed}
 use Rattle.display.proofs.Shown.{shown-people}
-use Rattle.display.proofs.Built.{counterOf, follows}
+use Rattle.display.proofs.Built.{counterOf, own-grid, follows}
 
--- the facts of a circle whose checks all pass
-record Counted (g : Grid) (c : CardCircle) : Type 0 where
-  radius : radiusRefusal (c .radius) ≡ passed
-  on : c .row < g .height
-  closed : closes g ≡ true
-  column : c .col < g .width
-
-checks-passed : (g : Grid) (c : CardCircle) → circleChecks g c ≡ 0 → Counted g c
-unfolding circleChecks radiusRefusal
+-- a circle whose checks all pass is on the grid
+checks-passed : (g : Grid) (c : CardCircle) → circleChecks g c ≡ 0 → (c .row < g .height) × (c .col < g .width)
+unfolding circleChecks
 checks-passed g c e =
     let p18 = first-passed (not (finite (c .radius))) radiusNotFinite _ tt e in
     let p19 = first-passed (lt (c .radius) f64zero) radiusBelowZero _ tt (p18 .1) in
     let p15 = first-passed (leb (g .height) (c .row)) rowOffGrid _ tt (p19 .1) in
     let p17 = first-passed (not (closes g)) columnsDontClose _ tt (p15 .1) in
     let p16 = first-passed (leb (g .width) (c .col)) columnOffGrid passed tt (p17 .1) in
-    record { radius = rw (p18 .0, p19 .0); on = leb-false _ _ (p15 .0); closed = not-false (closes g) (p17 .0); column = leb-false _ _ (p16 .0) }
-
--- its kernel is made
-kernel-made : (g : Grid) (c : CardCircle) → validGrid g ≡ true → Counted g c
-    → kernelRefusal g (record { 0 = c .row }) (record { 0 = c .radius }) (length (replicate {A = ℕ} (g .height) 0)) ≡ 0
-unfolding kernelRefusal validRadius
-kernel-made g c valid o =
-    rw (length-replicate {A = ℕ} (g .height) 0, valid, o .radius, lt-leb (g .height) (c .row) (o .on), o .closed, le-ltb (g .height) (g .height) (le-refl (g .height)))
+    (leb-false _ _ (p15 .0), leb-false _ _ (p16 .0))
 
 module _ (card : List ℕ) (h : Header) (e : readHeader card ≡ answered h) (ok : WholeAndSmall 0 (cardLedger card h)) where
   abbrev l : Ledger
@@ -74,14 +60,14 @@ module _ (card : List ℕ) (h : Header) (e : readHeader card ≡ answered h) (ok
   abbrev coarse : Grid
   coarse = h .decimation .grid
 
-  abbrev cells : List Float
-  cells = builtFrom card h (source .height) .lent .table
+  abbrev built : Building
+  built = builtFrom card h (source .height)
 
   a : Accepted card h
   a = accepted card h e
 
-  made : Made (h .decimation)
-  made = decimation-made (h .decimation) (a .made)
+  own : coarseGrid source (h .decimation .factor) ≡ coarse
+  own = own-grid card h a
 
   f : Follows source (h .decimation .factor) (h .nodata) l (counterOf card h a (source .height))
   f = follows card h a (source .height) (le-refl (source .height)) .0
@@ -90,23 +76,22 @@ module _ (card : List ℕ) (h : Header) (e : readHeader card ≡ answered h) (ok
   all = follows card h a (source .height) (le-refl (source .height)) .1
 
   -- the total's line
-  total-shown : totalLine (totalOf (builtFrom card h (source .height) .builder) (builtFrom card h (source .height) .lent)) ≡ totalWord ++ decimal (sumIn 0 l) ++ newline
+  total-shown : totalLine (totalOf (built .builder) (built .lent)) ≡ totalWord ++ decimal (sumIn 0 l) ++ newline
   unfolding totalLine
   total-shown = rw (total-units zero-le f ok, shown-people (sumIn 0 l) (ok .small))
 
   -- a circle that is counted has the people of the source cells that it covers
-  people-are : (c : CardCircle) → circleChecks coarse c ≡ 0 → circleCount coarse cells c ≡ f64units 0 (peopleCovered card h c)
+  people-are : (c : CardCircle) → circleChecks coarse c ≡ 0 → circleCount coarse (built .lent .table) c ≡ f64units 0 (peopleCovered card h c)
   unfolding circleCount peopleCovered kernelOf
   people-are c p =
-      let o = checks-passed coarse c p in
+      let on = checks-passed coarse c p in
       let row : Row = record { 0 = c .row } in
       let radius : RadiusKm = record { 0 = c .radius } in
       let zeros : List ℕ = replicate (coarse .height) 0 in
-      let valid = rw (made .grid) at (coarse-valid source (h .decimation .factor) (made .valid) (made .factored)) in
-      let fit = valid-maker (kernelOf coarse row radius) (halfWidths coarse row radius zeros) (made-valid coarse row radius zeros (kernel-made coarse c valid o)) in
-      rw (made .grid) at
-      (circle-sum-of zero-le f ok all (kernelOf coarse row radius) (halfWidths coarse row radius zeros) (c .col)
-      (rw (made .grid) (o .column)) (rw (made .grid) (fit .rows)) (fit .slice) (rw (made .grid) (fit .half)))
+      sym (own-sum coarse row radius zeros (coarse .width) (built .lent .table) (c .col))
+      ∙ rw own at
+      (circle-sum-of zero-le f ok all (kernelOf coarse row radius) (halfWidths coarse row radius zeros) (c .col) (rw own (on .1))
+      (rw own (rows-end coarse row radius (on .0))) (enough-widths coarse row radius zeros) (rw own (λ i q. widths-rule coarse row radius zeros i q .closed)))
 
   people-small : (c : CardCircle) → peopleCovered card h c ≤ 2 ^ 53
   unfolding peopleCovered
@@ -114,13 +99,13 @@ module _ (card : List ℕ) (h : Header) (e : readHeader card ≡ answered h) (ok
 
   -- a circle's line, by what its checks give
   line-shown : (i : ℕ) (c : CardCircle) (n : ℕ) → circleChecks coarse c ≡ n
-      → circleText i (outcome (circleChecks coarse c) (circleCount coarse cells c))
+      → circleText i (outcome (circleChecks coarse c) (circleCount coarse (built .lent .table) c))
       ≡ peopleOr i (circleChecks coarse c) (peopleCovered card h c)
   unfolding circleLine
   line-shown i c zero p = rw (p, people-are c p, shown-people (peopleCovered card h c) (people-small c))
   line-shown i c (suc n) p = rw p
 
-  circles-shown : (n : ℕ) → circlesText card h cells n ≡ circlesShown card h n
+  circles-shown : (n : ℕ) → circlesText card h (built .lent .table) n ≡ circlesShown card h n
   circles-shown zero = refl
   circles-shown (suc n) = rw (circles-shown n, line-shown n (circleAt card h n) (circleChecks coarse (circleAt card h n)) refl)
 

@@ -2,7 +2,9 @@
 use mathlib.Core.Path.{_≡_, refl, sym, subst, _∙_, ap}
 use mathlib.Core.Bool.{Bool, true, false, cond, not, _||_, false≢true, true≢false}
 use Prim.Native.Nat.{ℕ, zero, suc, _+_, _-_, _*_, _/_, _%_, _^_, _≤_, _<_}
-use native.Mathlib.Nat.{mul-pos, mul-assoc, mul-comm, mul-left-comm, mul-right-comm, mul-one, one-mul, add-zero, mul-div-cancel, mul-mod-left, add-mul-mod-self-right, div-add-mod', mod-eq-of-lt, mul-lt-mul-of-pos-right, mul-le-mul, le-refl, add-mul, mul-add, pow-suc, lt-of-lt-of-le, zero-mul, zero-lt-suc, add-sub-of-le, le-of-lt, pos-of-ne-zero, eq-or-lt-of-le, le-add-right}
+use native.Mathlib.Nat.{mul-pos, mul-assoc, mul-comm, mul-left-comm, mul-right-comm, mul-one, one-mul, add-zero, mul-div-cancel, mul-mod-left}
+use native.Mathlib.Nat.{add-mul-mod-self-right, div-add-mod', mod-eq-of-lt, mul-lt-mul-of-pos-right, mul-le-mul, le-refl, add-mul, mul-add, pow-suc}
+use native.Mathlib.Nat.{lt-of-lt-of-le, zero-mul, zero-lt-suc, add-sub-of-le, le-of-lt, pos-of-ne-zero, eq-or-lt-of-le, le-add-right}
 use native.Mathlib.Numerals.{add-one}
 use native.Mathlib.Decide.{decLt}
 use mathlib.Core.Logic.{inl, inr}
@@ -12,7 +14,8 @@ use lib.Arith.{mod-mul}
 use lib.Dec.{T, eqb, leb, ltb, le→leb}
 use lib.Pow.{pow-pos, pow-add, pow-mono, pow-lt, shl-lt}
 use lib.IntN.{pos}
-use lib.Ieee.{Float, nan, inf, fin, Format, binary64, prec, low, up, down, hid, top, rem, div, mul, neg, round, unlike, odd, ofFields, ofBits, ofInt, fits, toBits, inFloat}
+use lib.Ieee.{Float, nan, inf, fin, Format, binary64, prec, low, up, down, hid, top, rem, div, mul, neg, round, unlike, odd, ofFields, ofBits, ofInt, fits}
+use lib.Ieee.{toBits, inFloat}
 use lib.Ieee.Bits.{ofBits-toBits}
 use Rattle.float.specs.private.Remainder.{PatternUnits, signed}
 use Rattle.float.proofs.Patterns.{pattern-nan}
@@ -30,7 +33,8 @@ mod-scale a b c hb hc = rw (mod-mul (a * c) hb hc, mul-div-cancel a hc, mul-mod-
 -- a factor reduced first
 pub mod-first : (a b m : ℕ) → (a % m * b) % m ≡ (a * b) % m
 mod-first a b m =
-    let split : a * b ≡ a % m * b + (a / m * b) * m = ap (λ (n : ℕ). n * b) (sym (div-add-mod' a m)) ∙ simp (add-mul, mul-assoc, mul-comm, mul-left-comm) (omega arith) in
+    let split : a * b ≡ a % m * b + (a / m * b) * m = ap (λ (n : ℕ). n * b) (sym (div-add-mod' a m))
+    ∙ simp (add-mul, mul-assoc, mul-comm, mul-left-comm) (omega arith) in
     sym (ap (λ (n : ℕ). n % m) split ∙ add-mul-mod-self-right (a % m * b) (a / m * b) m)
 
 -- eleven doublings in one product
@@ -81,7 +85,8 @@ rem-units f (fin s' m e) (fin t' n d) s t a b c hb hc v w =
     let g : n * up d * down e * c ≡ b * (down e * down d) = cross n (up d) c b (down d) (down e) (w .1) ∙ ap (λ (k : ℕ). b * k) (mul-comm (down d) (down e)) in
     rw (ne-eqb n 0 no, v .0)
     (round-same f s (m * up e * down d % (n * up d * down e)) (down e * down d) (a % b) c (mul-pos (down-pos e) (down-pos d)) hc
-    (scaled (m * up e * down d) (n * up d * down e) c a b (down e * down d) q hc hb (mul-pos (down-pos e) (down-pos d)) (cross m (up e) c a (down e) (down d) (v .1)) g))
+    (scaled (m * up e * down d) (n * up d * down e) c a b (down e * down d) q hc hb (mul-pos (down-pos e) (down-pos d))
+    (cross m (up e) c a (down e) (down d) (v .1)) g))
 
 unlike-false : (s : Bool) → unlike false s ≡ s
 unlike-false true = refl
@@ -243,7 +248,8 @@ again : (x : Float) (s : Bool) (q k : ℕ) → T (fits binary64 x) → q < 2 ^ 5
 unfolding signed
 again x s q k h l n v =
     let small : q * 2 ^ k < 2 ^ 2098 = lt-of-lt-of-le (shl-lt 53 k l) (pow-mono {i = 53 + k} {j = 2098} (omega arith)) in
-    value-unique binary64 x (round binary64 s (q * 2 ^ k) (2 ^ 1074)) s (q * 2 ^ k) (2 ^ 1074) (pow-pos 1074) h (round-fits binary64 s (q * 2 ^ k) (2 ^ 1074)) v
+    value-unique binary64 x (round binary64 s (q * 2 ^ k) (2 ^ 1074)) s (q * 2 ^ k) (2 ^ 1074) (pow-pos 1074) h
+    (round-fits binary64 s (q * 2 ^ k) (2 ^ 1074)) v
     (round-exact binary64 s (q * 2 ^ k) (2 ^ 1074) q k (pow-pos 1074) l small refl)
 
 -- ---- one law for each way out of `rem`; b and c are the patterns of x and m
@@ -262,7 +268,8 @@ both-numbers b c = go (leb (2047 * 2 ^ 52) p) (ltb (2047 * 2 ^ 52) q) (eqb q 0) 
     q : ℕ
     q = c % 2 ^ 63
 
-    go : (i j k : Bool) → leb (2047 * 2 ^ 52) p ≡ i → ltb (2047 * 2 ^ 52) q ≡ j → eqb q 0 ≡ k → i || j || k ≡ false → (p < 2047 * 2 ^ 52) × (q ≤ 2047 * 2 ^ 52) × (0 < q)
+    go : (i j k : Bool) → leb (2047 * 2 ^ 52) p ≡ i → ltb (2047 * 2 ^ 52) q ≡ j → eqb q 0 ≡ k → i || j || k ≡ false
+        → (p < 2047 * 2 ^ 52) × (q ≤ 2047 * 2 ^ 52) × (0 < q)
     go true j k ei ej ek t = absurd (true≢false t)
     go false true k ei ej ek t = absurd (true≢false t)
     go false false true ei ej ek t = absurd (true≢false t)
@@ -276,12 +283,14 @@ module _ (x m : Float) (b c : ℕ) (hx : T (fits binary64 x)) (hm : T (fits bina
       → b < 2 ^ 64 → i || j || k ≡ true → nan ≡ rem binary64 x m
   no-number true j k ei ej ek g t = sym (rw (same-bits x b hx ex) at (past-end b m g (leb-true (2047 * 2 ^ 52) (b % 2 ^ 63) ei)))
   no-number false true k ei ej ek g t =
-      sym (subst (λ (y : Float). rem binary64 x y ≡ nan) (sym (pattern-nan binary64 c (ltb-true (2047 * 2 ^ 52) (c % 2 ^ 63) ej)) ∙ same-bits m c hm em) (by-nan x))
+      let none = pattern-nan binary64 c (ltb-true (2047 * 2 ^ 52) (c % 2 ^ 63) ej) in
+      sym (subst (λ (y : Float). rem binary64 x y ≡ nan) (sym none ∙ same-bits m c hm em) (by-nan x))
   no-number false false true ei ej ek g t =
       sym (by-zero x m (leb (2 ^ 63) c) (2 ^ 1074) (pow-pos 1074) (rw (same-bits m c hm em) at (low-value c 0 (eqb-true (c % 2 ^ 63) 0 ek) (omega arith))))
   no-number false false false ei ej ek g t = absurd (false≢true t)
 
-  value-of : (y : Float) (d q k : ℕ) → T (fits binary64 y) → d ≡ toBits binary64 y → PatternUnits (d % 2 ^ 63) q k → HasValue y (leb (2 ^ 63) d) (q * 2 ^ k) (2 ^ 1074)
+  value-of : (y : Float) (d q k : ℕ) → T (fits binary64 y) → d ≡ toBits binary64 y → PatternUnits (d % 2 ^ 63) q k
+      → HasValue y (leb (2 ^ 63) d) (q * 2 ^ k) (2 ^ 1074)
   value-of y d q k h e s = rw (same-bits y d h e) at (s .value d refl)
 
   infinite-m : (q k : ℕ) → PatternUnits (b % 2 ^ 63) q k → c % 2 ^ 63 ≡ 2047 * 2 ^ 52 → x ≡ rem binary64 x m
@@ -291,7 +300,10 @@ module _ (x m : Float) (b c : ℕ) (hx : T (fits binary64 x)) (hm : T (fits bina
       → signed (leb (2 ^ 63) b) n ≡ rem binary64 x m
   unfolding signed
   both-finite q k p j n s t z e =
-      rw e (sym (rem-units binary64 x m (leb (2 ^ 63) b) (leb (2 ^ 63) c) (q * 2 ^ k) (p * 2 ^ j) (2 ^ 1074) (mul-pos (t .some z) (pow-pos j)) (pow-pos 1074) (value-of x b q k hx ex s) (value-of m c p j hm em t)))
+      let some = mul-pos (t .some z) (pow-pos j) in
+      rw e
+      (sym (rem-units binary64 x m (leb (2 ^ 63) b) (leb (2 ^ 63) c) (q * 2 ^ k) (p * 2 ^ j) (2 ^ 1074) some (pow-pos 1074)
+      (value-of x b q k hx ex s) (value-of m c p j hm em t)))
 
   -- of a smaller x nothing is taken
   pub within-m : b % 2 ^ 63 < c % 2 ^ 63 → c % 2 ^ 63 ≤ 2047 * 2 ^ 52 → x ≡ rem binary64 x m

@@ -32,9 +32,11 @@ whole-value s (fin t m e) h =
     (t, (refl, omega (arith, z, div-add-mod' a (down e))))
 
 -- ---- one value is written in one way: its bit pattern is made of its sign and its size
-bits-of : (f : Format) (x : Float) (s : Bool) (n c : ℕ) → 0 < c → HasValue x s n c → toBits f x ≡ (let N = n * 2 ^ low f / c in cond s (top f) 0 + (size N - prec f) * hid f + N / 2 ^ (size N - prec f))
+bits-of : (f : Format) (x : Float) (s : Bool) (n c : ℕ) → 0 < c → HasValue x s n c → toBits f x ≡ (let N =
+    n * 2 ^ low f / c in cond s (top f) 0 + (size N - prec f) * hid f + N / 2 ^ (size N - prec f))
 unfolding toBits
-bits-of f (fin t m e) s n c C h = rw (h .0, div-same (m * up e * 2 ^ low f) (down e) (n * 2 ^ low f) c (down-pos e) C (omega (arith, ap (λ (z : ℕ). z * 2 ^ low f) (h .1))))
+bits-of f (fin t m e) s n c C h =
+    rw (h .0, div-same (m * up e * 2 ^ low f) (down e) (n * 2 ^ low f) c (down-pos e) C (omega (arith, ap (λ (z : ℕ). z * 2 ^ low f) (h .1))))
 
 pub value-unique : (f : Format) (x y : Float) (s : Bool) (n c : ℕ) → 0 < c → T (fits f x) → T (fits f y) → HasValue x s n c → HasValue y s n c → x ≡ y
 value-unique f x y s n c C fx fy h k = sym (ofBits-toBits f x fx) ∙ ap (ofBits f) (bits-of f x s n c C h ∙ sym (bits-of f y s n c C k)) ∙ ofBits-toBits f y fy

@@ -1,4 +1,5 @@
--- A float as a whole number of units of 2 ^ -s: every finite value of a format is one of 2 ^ -low, its smallest value (IEEE 754, 3.3); document 00, demand 3, has s = 0.
+-- A float as a whole number of units of 2 ^ -s: every finite value of a format is one of 2 ^ -low, its smallest value (IEEE 754,
+-- 3.3); document 00, demand 3, has s = 0.
 use mathlib.Core.Bool.{Bool, false}
 use Prim.Native.Nat.{ℕ, _*_, _/_, _%_, _^_}
 use lib.Dec.{eqb}

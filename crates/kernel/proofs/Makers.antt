@@ -22,7 +22,8 @@ use Rattle.grid.specs.declared.Row.{Row}
 use Rattle.grid.proofs.Valid.{valid-by, valid-passed, valid-lon}
 use Rattle.kernel.specs.Cap.{closing}
 use Rattle.kernel.specs.Walks.{listed}
-use Rattle.kernel.specs.Kernel.{capAt, rowWidth, northRow, rowCount, kernelRefusal, kernelOf, ownWidths, halfWidths, kernelNew, allWithin, validKernel, FromMaker}
+use Rattle.kernel.specs.Kernel.{capAt, rowWidth, northRow, rowCount, kernelRefusal, kernelOf, ownWidths, halfWidths, kernelNew, allWithin, validKernel}
+use Rattle.kernel.specs.Kernel.{FromMaker}
 use Rattle.kernel.specs.declared.Kernel.{Kernel}
 use Rattle.kernel.proofs.Walks.{length-listed}
 use Rattle.kernel.proofs.Rules.{kernel-passed, rows-end, width-closed}
@@ -73,7 +74,8 @@ module _ (k : Kernel) (widths : List ℕ) where
         not-below = km .1;
         rows = leb-true _ _ (r .1);
         slice = room;
-        half = λ i h. rw (getD-take (k .count) widths i 0 h) at (each-within c (take (k .count) widths) i (p .1) (rw (length-take-le (k .count) widths room) h));
+        half =
+            λ i h. rw (getD-take (k .count) widths i 0 h) at (each-within c (take (k .count) widths) i (p .1) (rw (length-take-le (k .count) widths room) h));
       }
 
 -- ---- what a kernel call made
@@ -101,9 +103,10 @@ module _ (g : Grid) (centre : Row) (radius : RadiusKm) (lent : List ℕ) where
   unfolding halfWidths
   widths-own = take-at (listed f n k) (drop k lent) k (length-listed f n k)
 
-  long : k ≤ length (halfWidths g centre radius lent)
+  -- it has a half-width for each row
+  pub enough-widths : k ≤ length (halfWidths g centre radius lent)
   unfolding halfWidths
-  long = omega (arith, length-append (listed f n k) (drop k lent), length-listed f n k)
+  enough-widths = omega (arith, length-append (listed f n k) (drop k lent), length-listed f n k)
 
   -- it passes 22 with the half-widths that the call left
   pub made-valid : kernelRefusal g centre radius (length lent) ≡ 0 → validKernel (kernelOf g centre radius) (halfWidths g centre radius lent) ≡ true
@@ -114,12 +117,13 @@ module _ (g : Grid) (centre : Row) (radius : RadiusKm) (lent : List ℕ) where
         p .grid,
         p .km,
         le-leb (n + k) (g .height) (rows-end g centre radius (p .on)),
-        le-leb k (length (halfWidths g centre radius lent)) long,
+        le-leb k (length (halfWidths g centre radius lent)) enough-widths,
         widths-own,
       ) (all-listed f (closing (g .width)) n k (width-closed g centre radius))
 
   -- the same of the call's answer
-  pub answered-valid : (made : Kernel) → kernelNew g centre radius lent .answer ≡ answered made → validKernel made (kernelNew g centre radius lent .widths) ≡ true
+  pub answered-valid : (made : Kernel) → kernelNew g centre radius lent .answer ≡ answered made
+      → validKernel made (kernelNew g centre radius lent .widths) ≡ true
   unfolding kernelNew
   answered-valid made e =
       let p = answered-passed (kernelRefusal g centre radius (length lent)) (kernelOf g centre radius) made e in

@@ -75,14 +75,19 @@ module _ {s : ℕ} (S : s ≤ 1074) {b : Builder} {row : List ℕ} {m : Buffers}
   framed = builder-framed b (t .valid)
 
   module _ (small : prefix (cellIn P') (suc (length P)) (b .decimation .source .width) ≤ 2 ^ 53) where
-    now : (accAfter xs (m .acc) (m .corr) ≡ columns s (w * k) (λ j. prefix (cellIn P') (length P') j)) × (corrAfter xs (m .acc) (m .corr) ≡ columns s (w * k) (λ _. 0))
+    now : (accAfter xs (m .acc) (m .corr) ≡ columns s (w * k) (λ j. prefix (cellIn P') (length P') j))
+        × (corrAfter xs (m .acc) (m .corr) ≡ columns s (w * k) (λ _. 0))
     now =
         let sized : length xs ≡ w * k = length-cells b row m t ∙ sym (framed .wide) in
         let bound : (j : ℕ) → j ≤ length xs → prefix (cellIn P) (length P) j + sumOf (take j R) ≤ 2 ^ 53 =
         λ j i. rw (← prefix-after P R j) (le-trans (prefix-mono-col (cellIn P') (suc (length P)) (omega (arith, sized, framed .wide))) small) in
         let q = row-swept s S xs (λ j. prefix (cellIn P) (length P) j) cells bound in
-        rw (h .acc, h .corr, ← sized)
-        (q .0 ∙ listed-ext (suc (length xs)) _ _ (λ j i. ap (f64units s) (sym (prefix-after P R j) ∙ ap (λ (n : ℕ). prefix (cellIn P') n j) (sym (length-snoc P R)))), q .1)
+        rw (h .acc, h .corr, ← sized) (
+          q .0
+              ∙ listed-ext (suc (length xs)) _ _
+              (λ j i. ap (f64units s) (sym (prefix-after P R j) ∙ ap (λ (n : ℕ). prefix (cellIn P') n j) (sym (length-snoc P R)))),
+          q .1,
+        )
 
     -- the complete rows stay
     kept : (i j : ℕ) → i ≤ b .rows / k → j ≤ w → corner w (m .table) i j ≡ f64units s (tableOf k (cellIn P') i j)
@@ -91,7 +96,8 @@ module _ {s : ℕ} (S : s ≤ 1074) {b : Builder} {row : List ℕ} {m : Buffers}
         ∙ ap (f64units s) (sym (prefix-front P (R ∷ []) (i * k) (j * k) (le-trans (mul-le-mul-right k a) (rw rows (div-mul-le-self (b .rows) k)))))
 
     -- and the one that the row completes is every k-th cell of the accumulator
-    new : suc (b .rows) % k ≡ 0 → (j : ℕ) → j ≤ w → corner w (buffersAfter b row m .table) (completedRow b) j ≡ f64units s (tableOf k (cellIn P') (completedRow b) j)
+    new : suc (b .rows) % k ≡ 0 → (j : ℕ) → j ≤ w
+        → corner w (buffersAfter b row m .table) (completedRow b) j ≡ f64units s (tableOf k (cellIn P') (completedRow b) j)
     unfolding buffersAfter
     new q j a =
         let count : length P' ≡ completedRow b * k = length-snoc P R ∙ omega (arith, rows, div-add-mod' (suc (b .rows)) k) in
@@ -109,6 +115,7 @@ module _ {s : ℕ} (S : s ≤ 1074) {b : Builder} {row : List ℕ} {m : Buffers}
       ]
     ]
 
-    pub summed-row : Summed s (b .decimation .factor) (b .decimation .grid .width) (P ++ map (people s) (sanitisedRow (b .nodata) row) ∷ []) (buffersAfter b row m)
+    pub summed-row : Summed s (b .decimation .factor) (b .decimation .grid .width) (P ++ map (people s) (sanitisedRow (b .nodata) row) ∷ [])
+        (buffersAfter b row m)
     unfolding buffersAfter
     summed-row = record { acc = now .0; corr = now .1; table = rw (length-snoc P R, rows) table-row }

@@ -24,7 +24,7 @@ use Rattle.card.specs.Card.{rowAt}
 use Rattle.card.specs.private.Accepted.{Accepted}
 use Rattle.report.specs.Printed.{emptyBuffers, builtFrom}
 use Rattle.report.specs.private.Steps.{wholeBuild, Finished}
-use Rattle.report.proofs.RowWords.{row-length}
+use Rattle.card.proofs.Rows.{row-length}
 use Rattle.report.proofs.Sizes.{made}
 
 -- ---- the buffers that a build begins with

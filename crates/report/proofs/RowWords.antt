@@ -1,14 +1,13 @@
 -- The rows of a card, word by word. Assumes nothing.
-use mathlib.Core.Path.{_≡_, refl, ap}
+use mathlib.Core.Path.{_≡_}
 use mathlib.Core.List.{List, _++_}
-use Prim.Native.Nat.{ℕ, zero, suc, _+_, _*_, _<_, _≤_}
+use Prim.Native.Nat.{ℕ, suc, _+_, _*_, _<_, _≤_}
 use native.Mathlib.Nat.{add-mul, mul-comm, one-mul, mul-le-mul, le-refl}
 use native.Mathlib.Numerals.{add-one}
 use native.Mathlib.Omega.{arith}
 use lib.ListN.{length, take, set}
 use lib.Seq.{take-suc-set, append-snoc}
 use Rattle.card.specs.Words.{u32At, wordsAt}
-use Rattle.card.specs.Card.{rowAt}
 use Rattle.card.specs.declared.Header.{Header}
 use Rattle.card.specs.private.Accepted.{Accepted}
 
@@ -27,12 +26,3 @@ row-inside {h = h} i n a l e =
     let p : (i + 1) * w ≤ h .decimation .source .height * w = mul-le-mul (omega arith) (le-refl w) in
     let q : (i + 1) * w ≡ i * w + w = simp (add-mul, one-mul) in
     rw e (omega (arith, p, q, mul-comm w (h .decimation .source .height), a .rows, a .whole))
-
-words-length : (card : List ℕ) (at n : ℕ) → length (wordsAt card at n) ≡ n
-words-length card at zero = refl
-words-length card at (suc n) = ap suc (words-length card (at + 4) n)
-
--- a row has width words (belongs to card/proofs: display/proofs/Built needs it too)
-pub row-length : (card : List ℕ) (h : Header) (i : ℕ) → length (rowAt card h i) ≡ h .decimation .source .width
-unfolding rowAt
-row-length card h i = words-length card (h .«rows_at» + 4 * (i * h .decimation .source .width)) (h .decimation .source .width)

@@ -6,7 +6,8 @@ use lib.Dec.{leb}
 use lib.ListN.{replicate}
 use lib.Ieee.{Float, lt}
 use lib.Ieee.Scale.{finite}
-use Rattle.refusal.specs.Refusal.{Outcome, answered, refused, first, passed, outcome, radiusNotFinite, radiusBelowZero, rowOffGrid, columnsDontClose, columnOffGrid}
+use Rattle.refusal.specs.Refusal.{Outcome, answered, refused, first, passed, outcome, radiusNotFinite, radiusBelowZero, rowOffGrid, columnsDontClose}
+use Rattle.refusal.specs.Refusal.{columnOffGrid}
 use Rattle.float.specs.Float.{f64zero}
 use Rattle.grid.specs.declared.Grid.{Grid}
 use Rattle.grid.specs.declared.Row.{Row}

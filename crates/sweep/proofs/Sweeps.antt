@@ -25,14 +25,37 @@ fromAcc k row acc corr i = take i acc ++ sweptAcc (k .prefix) (k .corr) (drop i 
 abbrev pub fromCorr : Carry → List ℕ → List Float → List Float → ℕ → List Float
 fromCorr k row acc corr i = take i corr ++ sweptCorr (k .prefix) (k .corr) (drop i row) (drop i acc) (drop i corr)
 
-module _ (k : Carry) (row : List ℕ) (acc corr : List Float) (i : ℕ) (r : i < length row) (a : i < length acc) (c : i < length corr) (s : Column) (e : s ≡ swept k (cellValue (getD row i 0)) (getD acc i nan) (getD corr i nan)) where
+module _ (k : Carry) (row : List ℕ) (acc corr : List Float) (i : ℕ) (r : i < length row) (a : i < length acc) (c : i < length corr) (s : Column)
+    (e : s ≡ swept k (cellValue (getD row i 0)) (getD acc i nan) (getD corr i nan)) where
   pub turn-acc : fromAcc (s .carry) row (set acc i (s .acc)) (set corr i (s .corr)) (i + 1) ≡ fromAcc k row acc corr i
   unfolding swept
-  turn-acc = rw (e, add-one, take-suc-set acc i, drop-set-lt (suc i) acc i _ (le-refl (suc i)), drop-set-lt (suc i) corr i _ (le-refl (suc i)), append-snoc, drop-cons row i 0 r, drop-cons acc i nan a, drop-cons corr i nan c)
+  turn-acc =
+      rw (
+        e,
+        add-one,
+        take-suc-set acc i,
+        drop-set-lt (suc i) acc i _ (le-refl (suc i)),
+        drop-set-lt (suc i) corr i _ (le-refl (suc i)),
+        append-snoc,
+        drop-cons row i 0 r,
+        drop-cons acc i nan a,
+        drop-cons corr i nan c,
+      )
 
   pub turn-corr : fromCorr (s .carry) row (set acc i (s .acc)) (set corr i (s .corr)) (i + 1) ≡ fromCorr k row acc corr i
   unfolding swept
-  turn-corr = rw (e, add-one, take-suc-set corr i, drop-set-lt (suc i) acc i _ (le-refl (suc i)), drop-set-lt (suc i) corr i _ (le-refl (suc i)), append-snoc, drop-cons row i 0 r, drop-cons acc i nan a, drop-cons corr i nan c)
+  turn-corr =
+      rw (
+        e,
+        add-one,
+        take-suc-set corr i,
+        drop-set-lt (suc i) acc i _ (le-refl (suc i)),
+        drop-set-lt (suc i) corr i _ (le-refl (suc i)),
+        append-snoc,
+        drop-cons row i 0 r,
+        drop-cons acc i nan a,
+        drop-cons corr i nan c,
+      )
 
 pub turn-digest : (d : ℕ) (row : List ℕ) (i : ℕ) → i < length row → digestOf (mixed d (getD row i 0)) (drop (i + 1) row) ≡ digestOf d (drop i row)
 turn-digest d row i r = rw (add-one, drop-cons row i 0 r)
@@ -57,7 +80,14 @@ min-sub a b i = omega arith
 -- the sweep ends where the row or the columns do
 module _ (k : Carry) (row : List ℕ) (acc corr : List Float) (i : ℕ) (r : min (length row) (min (length acc) (length corr)) ≤ i) where
   none-left : min (length (drop i row)) (min (length (drop i acc)) (length (drop i corr))) ≡ 0
-  none-left = rw (length-drop i row, length-drop i acc, length-drop i corr, min-sub (length acc) (length corr) i, min-sub (length row) (min (length acc) (length corr)) i) (omega arith)
+  none-left =
+      rw (
+        length-drop i row,
+        length-drop i acc,
+        length-drop i corr,
+        min-sub (length acc) (length corr) i,
+        min-sub (length row) (min (length acc) (length corr)) i,
+      ) (omega arith)
 
   pub end-acc : fromAcc k row acc corr i ≡ acc
   end-acc = rw (none-acc (k .prefix) (k .corr) (drop i row) (drop i acc) (drop i corr) none-left, take-append-drop)

@@ -97,7 +97,8 @@ pub whole-on-grid : (g : Grid) (cells : List Float) → validGrid g ≡ true →
     → OnGrid g cells (rowBand 0 (g .height - 1)) FullTurn
 whole-on-grid g cells v l =
     let s = grid-sized g v in
-    let held : Held g (length cells) (rowBand 0 (g .height - 1)) FullTurn = record { ordered = omega arith; right = l; south = omega (arith, s .high); columns = refl } in
+    let held : Held g (length cells) (rowBand 0 (g .height - 1)) FullTurn =
+    record { ordered = omega arith; right = l; south = omega (arith, s .high); columns = refl } in
     record { valid = v; held = held }
 
 pub whole-answered : (g : Grid) (cells : List Float) (rows : RowBand) (cols : ColSpan) → wholeExtent g ≡ answered (rows, cols)

@@ -14,16 +14,24 @@ returns c = simp (← c .before .is-off-factor .ensures, c .if1 .taken)
 
 div-width : tie.Need-div-width
 div-width c =
-    on-factor (c .before .before .before .before .args .source) (c .before .before .before .before .args .factor) (sym (c .before .before .before .is-off-factor .ensures) ∙ c .before .before .if1 .left) .some
+    on-factor (c .before .before .before .before .args .source) (c .before .before .before .before .args .factor)
+    (sym (c .before .before .before .is-off-factor .ensures) ∙ c .before .before .if1 .left) .some
 
 div-height : tie.Need-div-height
 div-height c =
-    on-factor (c .before .before .before .before .before .args .source) (c .before .before .before .before .before .args .factor) (sym (c .before .before .before .before .is-off-factor .ensures) ∙ c .before .before .before .if1 .left) .some
+    on-factor (c .before .before .before .before .before .args .source) (c .before .before .before .before .before .args .factor)
+    (sym (c .before .before .before .before .is-off-factor .ensures) ∙ c .before .before .before .if1 .left) .some
 
 returns-2 : tie.Need-returns-2
 unfolding factorRefusal coarseGrid coarsened gridNew
 returns-2 c =
-    simp (← c .before .before .before .before .before .before .before .is-off-factor .ensures, c .before .before .before .before .before .before .if1 .left) (c .new .ensures)
+    let halfway = c .before .before .before .before .before in
+    let after-if1 = halfway .before in
+    let after-is-off-factor = after-if1 .before in
+    simp (
+      ← after-is-off-factor .is-off-factor .ensures,
+      after-if1 .if1 .left,
+    ) (c .new .ensures)
 
 pub coarse-grid-spec : {M : Type 1} → statement M
 coarse-grid-spec =

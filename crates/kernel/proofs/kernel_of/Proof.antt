@@ -16,7 +16,8 @@ returns-2 c =
     let e = d .before .before in
     let f = e .before .before .before in
     let a = f .before .before .before .before .args in
-    made-cap (a .g) (a .centre) (a .radius) (a .half-widths .now) _ _ _ _ _ _ (f .before .if1 .left) (f .lat-at .ensures) (e .before .before .cap-over .ensures)
+    made-cap (a .g) (a .centre) (a .radius) (a .half-widths .now) _ _ _ _ _ _ (f .before .if1 .left) (f .lat-at .ensures)
+    (e .before .before .cap-over .ensures)
     (e .before .cap-terms .ensures) (e .north-of .ensures .0) (d .south-of .ensures .0) (c .before .before .fill .ensures)
 
 pub kernel-of-spec : {M : Type 1} → statement M

@@ -9,7 +9,9 @@ use Rattle.text.proofs.cells_line.Tie as tie
 returns : tie.Need-returns
 unfolding cellsLine
 returns c =
-    let zero = c .before .before .before .before .before .before in
+    let halfway = c .before .before .before .before .before in
+    let place = halfway .before in
+    let zero = place in
     let negative = zero .before .before .before .before in
     let nodata = negative .before .before .before .before in
     let word = nodata .before .before .before .before in
@@ -17,7 +19,8 @@ returns c =
     laid-parts (decimal (t .populated)) newline
     (laid-parts (decimal (t .zero)) space
     (laid-parts (decimal (t .negative)) space
-    (laid-parts (decimal (t .nodata)) space (word .put-bytes .ensures) (nodata .put-number .ensures)) (negative .put-number2 .ensures)) (zero .put-number3 .ensures)) (c .before .before .put-number4 .ensures)
+    (laid-parts (decimal (t .nodata)) space (word .put-bytes .ensures) (nodata .put-number .ensures))
+    (negative .put-number2 .ensures)) (zero .put-number3 .ensures)) (c .before .before .put-number4 .ensures)
 
 pub cells-line-spec : {M : Type 1} → statement M
 cells-line-spec =

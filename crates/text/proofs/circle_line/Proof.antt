@@ -9,7 +9,9 @@ use Rattle.text.proofs.circle_line.Tie as tie
 returns : tie.Need-returns
 unfolding circleLine
 returns c =
-    let circle = c .before .before .before .before .before .before in
+    let halfway = c .before .before .before .before .before in
+    let place = halfway .before in
+    let circle = place in
     laid-parts (shown (circle .before .before .before .args .people)) newline (circle .put-circle .ensures) (c .before .before .put-shown .ensures)
 
 pub circle-line-spec : {M : Type 1} → statement M

@@ -8,7 +8,10 @@ use Rattle.text.proofs.circle_refused_line.Tie as tie
 
 returns : tie.Need-returns
 unfolding circleRefusedLine
-returns c = laid-then (c .before .before .before .before .before .before .put-circle .ensures) (c .before .before .put-refused .ensures)
+returns c =
+    let halfway = c .before .before .before .before .before in
+    let after-put-circle = halfway .before in
+    laid-then (after-put-circle .put-circle .ensures) (c .before .before .put-refused .ensures)
 
 pub circle-refused-line-spec : {M : Type 1} → statement M
 circle-refused-line-spec =

@@ -8,7 +8,10 @@ use Rattle.text.proofs.rows_line.Tie as tie
 
 returns : tie.Need-returns
 unfolding rowsLine
-returns c = laid-then (c .before .before .before .before .before .before .put-bytes .ensures) (c .before .before .put-number .ensures)
+returns c =
+    let halfway = c .before .before .before .before .before in
+    let after-put-bytes = halfway .before in
+    laid-then (after-put-bytes .put-bytes .ensures) (c .before .before .put-number .ensures)
 
 pub rows-line-spec : {M : Type 1} → statement M
 rows-line-spec =

@@ -8,7 +8,10 @@ use Rattle.text.proofs.total_line.Tie as tie
 
 returns : tie.Need-returns
 unfolding totalLine
-returns c = laid-then (c .before .before .before .before .before .before .put-bytes .ensures) (c .before .before .put-shown .ensures)
+returns c =
+    let halfway = c .before .before .before .before .before in
+    let after-put-bytes = halfway .before in
+    laid-then (after-put-bytes .put-bytes .ensures) (c .before .before .put-shown .ensures)
 
 pub total-line-spec : {M : Type 1} → statement M
 total-line-spec =

@@ -23,29 +23,40 @@ returns c =
     let checked = c .before in
     let s = checked .before .before .before .before .before in
     let a = s .args in
-    begin-refused (a .d) (a .nodata) (buffers (a .acc .now) (a .corr .now) (a .coarse .now) (a .table .now)) (s .pre) _ (checked .lent-refusal .ensures) (c .if1 .taken)
+    begin-refused (a .d) (a .nodata) (buffers (a .acc .now) (a .corr .now) (a .coarse .now) (a .table .now)) (s .pre) _ (checked .lent-refusal .ensures)
+    (c .if1 .taken)
 
 -- the lengths are right, and the accumulator keeps its own
-roomy : (c : tie.After-clear) → Room (c .before .before .before .before .before .before .before .before .args .d) (length (c .clear .last .0)) (length (c .before .before .before .before .before .before .before .before .args .coarse .now)) (length (c .before .before .before .before .before .before .before .before .args .table .now))
+roomy : (c : tie.After-clear)
+    → Room (c .before .before .before .before .before .before .before .before .args .d) (length (c .clear .last .0))
+    (length (c .before .before .before .before .before .before .before .before .args .coarse .now))
+    (length (c .before .before .before .before .before .before .before .before .args .table .now))
 roomy c =
     let passed = c .before .before in
     let checked = passed .before in
     let s = checked .before .before .before .before .before in
     let a = s .args in
-    let r = begin-room (a .d) (a .nodata) (buffers (a .acc .now) (a .corr .now) (a .coarse .now) (a .table .now)) (s .pre) _ (checked .lent-refusal .ensures) (passed .if1 .left) in
+    let lent = buffers (a .acc .now) (a .corr .now) (a .coarse .now) (a .table .now) in
+    let r = begin-room (a .d) (a .nodata) lent (s .pre) _ (checked .lent-refusal .ensures) (passed .if1 .left) in
     record { valid = r .valid; acc = ap length (c .clear .ensures) ∙ length-replicate _ _ ∙ r .acc; coarse = r .coarse; table = r .table }
 
 decimated-requires : tie.Need-decimated-requires
 decimated-requires c κs =
-    let cleared = c .before .before .before .before .before .before .before .before .before .before in
+    let halfway = c .before .before .before .before .before in
+    let place = halfway .before .before .before .before .before in
+    let cleared = place in
     let d = cleared .before .before .before .before .before .before .before .before .args .d in
     (rw (add-one (d .grid .width)) (acc-wide d _ _ _ (roomy cleared)), rw (add-one (d .grid .width)) (coarse-wide d _ _ _ (roomy cleared)))
 
 lay-requires : tie.Need-lay-requires
 lay-requires c κs =
-    let cleared = c .before .before .before .before .before .before .before .before .before .before .before in
+    let halfway = c .before .before .before .before .before in
+    let further = halfway .before .before .before .before .before in
+    let place = further .before in
+    let cleared = place in
     let d = cleared .before .before .before .before .before .before .before .before .args .d in
-    let row : length (c .decimated .result .now) ≡ suc (d .grid .width) = ap length (c .decimated .ensures) ∙ rw (add-one (d .grid .width)) (length-handedOn _ _ _ _ (acc-wide d _ _ _ (roomy cleared)) (coarse-wide d _ _ _ (roomy cleared))) in
+    let row : length (c .decimated .result .now) ≡ suc (d .grid .width) = ap length (c .decimated .ensures)
+    ∙ rw (add-one (d .grid .width)) (length-handedOn _ _ _ _ (acc-wide d _ _ _ (roomy cleared)) (coarse-wide d _ _ _ (roomy cleared))) in
     row-room d _ _ _ (roomy cleared) _ _ (omega arith) row
 
 returns-2 : tie.Need-returns-2
@@ -59,8 +70,9 @@ returns-2 c =
     let checked = passed .before in
     let s = checked .before .before .before .before .before in
     let a = s .args in
+    let lent = buffers (a .acc .now) (a .corr .now) (a .coarse .now) (a .table .now) in
     rw (none .none .ensures)
-    (begun (a .d) (a .nodata) (buffers (a .acc .now) (a .corr .now) (a .coarse .now) (a .table .now)) (s .pre) _ (checked .lent-refusal .ensures) (passed .if1 .left) _ _ _ _
+    (begun (a .d) (a .nodata) lent (s .pre) _ (checked .lent-refusal .ensures) (passed .if1 .left) _ _ _ _
     (cleared .clear .ensures) (cleared2 .clear2 .ensures) (row .decimated .ensures) (laid .lay .ensures))
 
 pub begin-spec : {M : Type 1} → statement M

@@ -17,7 +17,10 @@ unfolding validBuilder
 returns c = simp (← c .before .is-valid .ensures, not-true (c .before .is-valid .result) (c .if1 .taken))
 
 returns-2 : tie.Need-returns-2
-returns-2 c = sym (rows-over (c .before .before .before .before .before .before .args .self) (c .if2 .taken))
+returns-2 c =
+    let halfway = c .before .before .before .before .before in
+    let start = halfway .before in
+    sym (rows-over (start .args .self) (c .if2 .taken))
 
 mul-result : tie.Need-mul-result
 mul-result c =
@@ -35,7 +38,10 @@ returns-3 c =
     let made = sym (valid .is-valid .ensures) ∙ not-false (valid .is-valid .result) (rows .before .before .before .if1 .left) in
     let f = framed (b .decimation) made in
     let few = few-cells (b .rows) (b .decimation .source .width) (omega (arith, f .lines, rows .if2 .left)) (f .columns) in
-    rw (c .before .before .total .ensures, total-is (b .tallies) (b .rows * b .decimation .source .width) (omega (arith, few))) (sym (valid-so-far b made (rows .if2 .left)))
+    rw (
+      c .before .before .total .ensures,
+      total-is (b .tallies) (b .rows * b .decimation .source .width) (omega (arith, few)),
+    ) (sym (valid-so-far b made (rows .if2 .left)))
 
 pub is-valid-spec : {M : Type 1} → statement M
 is-valid-spec =

@@ -11,19 +11,23 @@ returns : tie.Need-returns
 returns c =
     let checked = c .before in
     let a = checked .before .before .before .before .before .before .args in
-    row-refused (a .self) (a .row .now) (buffers (a .acc .now) (a .corr .now) (a .coarse .now) (a .table .now)) _ (checked .row-refusal .ensures) (c .if1 .taken)
+    row-refused (a .self) (a .row .now) (buffers (a .acc .now) (a .corr .now) (a .coarse .now) (a .table .now)) _ (checked .row-refusal .ensures)
+    (c .if1 .taken)
 
 take-row-requires : tie.Need-take-row-requires
 take-row-requires c κs = let passed = c .before .before .before .before .before in sym (passed .before .row-refusal .ensures) ∙ passed .if1 .left
 
 returns-2 : tie.Need-returns-2
 returns-2 c =
-    let taken = c .before .before .before .before .before .before .before .before .before .before in
+    let halfway = c .before .before .before .before .before in
+    let place = halfway .before .before .before .before .before in
+    let taken = place in
     let passed = taken .before .before .before .before .before .before in
     let checked = passed .before in
     let a = checked .before .before .before .before .before .before .args in
     let e = taken .take-row .ensures in
-    row-taken (a .self) (a .row .now) (buffers (a .acc .now) (a .corr .now) (a .coarse .now) (a .table .now)) _ (checked .row-refusal .ensures) _ _ _ (passed .if1 .left) (e .0) (e .1) (e .2)
+    row-taken (a .self) (a .row .now) (buffers (a .acc .now) (a .corr .now) (a .coarse .now) (a .table .now)) _ (checked .row-refusal .ensures) _ _ _
+    (passed .if1 .left) (e .0) (e .1) (e .2)
 
 pub row-spec : {M : Type 1} → statement M
 row-spec =

@@ -6,11 +6,14 @@ use Rattle.builder.proofs.Builder.start.Statement.{statement}
 use Rattle.builder.proofs.Builder.start.Tie as tie
 
 begin-requires : tie.Need-begin-requires
-begin-requires c κs = let made = c .before .before .before .before .before in made-again _ _ _ (rw (made .made .given .1) at (made .before .before .new .ensures)) .2
+begin-requires c κs =
+    let made = c .before .before .before .before .before in made-again _ _ _ (rw (made .made .given .1) at (made .before .before .new .ensures)) .2
 
 returns : tie.Need-returns
 returns c =
-    let begun = c .before .before .before .before .before .before .before .before in
+    let halfway = c .before .before .before .before .before in
+    let place = halfway .before .before .before in
+    let begun = place in
     let made = begun .before .before .before .before .before .before in
     let p = made-again _ _ _ (rw (made .made .given .1) at (made .before .before .new .ensures)) in
     rw (p .0, p .1) at (begun .begin .ensures)

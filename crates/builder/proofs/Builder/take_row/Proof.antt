@@ -13,20 +13,32 @@ use Rattle.builder.proofs.Builder.take_row.Statement.{statement}
 use Rattle.builder.proofs.Builder.take_row.Tie as tie
 
 -- no check refuses the row
-taken : (s : tie.Start) → Taken (s .args .self) (s .args .row .now) (buffers (s .args .acc .now) (s .args .corr .now) (s .args .coarse .now) (s .args .table .now))
-taken s = row-passed (s .args .self) (s .args .row .now) (buffers (s .args .acc .now) (s .args .corr .now) (s .args .coarse .now) (s .args .table .now)) (s .pre)
+taken : (s : tie.Start)
+    → Taken (s .args .self) (s .args .row .now) (buffers (s .args .acc .now) (s .args .corr .now) (s .args .coarse .now) (s .args .table .now))
+taken s =
+    row-passed (s .args .self) (s .args .row .now) (buffers (s .args .acc .now) (s .args .corr .now) (s .args .coarse .now) (s .args .table .now)) (s .pre)
 
 hand-on-requires : tie.Need-hand-on-requires
 hand-on-requires c κs =
-    let swept = c .before .before .before .before .before .before .before in
+    let halfway = c .before .before .before .before .before in
+    let place = halfway .before .before in
+    let swept = place in
     let s = swept .before .before .before .before .before .before .before .before .before .before .before .before .before .before .before .before in
     let t = taken s in
-    let same : length (swept .sweep-row .last .0) ≡ length (s .args .acc .now) = ap length (swept .sweep-row .ensures .1) ∙ length-accAfter _ (s .args .acc .now) (s .args .corr .now) in
+    let same : length (swept .sweep-row .last .0) ≡ length (s .args .acc .now) = ap length (swept .sweep-row .ensures .1)
+    ∙ length-accAfter _ (s .args .acc .now) (s .args .corr .now) in
     let room = taken-room (s .args .self) (s .args .row .now) _ t in
     (record { valid = room .valid; acc = same ∙ t .lengths .acc; coarse = room .coarse; table = room .table }, t .left)
 
 add-t27 : tie.Need-add-t27
-add-t27 c = let s = c .before .before .before .before .before .before .before .before .before .before .before .before .before .before .before .before .before .before .before .before .before .before .before .before .before .before .before .before .before in omega (arith, rows-fit _ _ _ (taken s))
+add-t27 c =
+    let halfway = c .before .before .before .before .before in
+    let further = halfway .before .before .before .before .before in
+    let first-of-all = further .before .before .before .before .before in
+    let first-of-all = first-of-all .before .before .before .before .before in
+    let first-of-all = first-of-all .before .before .before .before .before in
+    let place = first-of-all .before .before .before .before in
+    let s = place in omega (arith, rows-fit _ _ _ (taken s))
 
 returns : tie.Need-returns
 returns c =

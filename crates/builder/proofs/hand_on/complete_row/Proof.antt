@@ -12,11 +12,18 @@ use Rattle.builder.proofs.hand_on.complete_row.Statement.{statement}
 use Rattle.builder.proofs.hand_on.complete_row.Tie as tie
 
 fill-coarse-requires : tie.Need-fill-coarse-requires
-fill-coarse-requires c κs = let s = c .before .before .before .before .before .before in samples (s .args .d) _ _ _ (s .pre .0)
+fill-coarse-requires c κs =
+    let halfway = c .before .before .before .before .before in
+    let place = halfway .before in
+    let s = place in samples (s .args .d) _ _ _ (s .pre .0)
 
 -- the coarse row keeps its length
 filled : (c : tie.After-fill-coarse) → length (c .fill-coarse .last .0) ≡ length (c .before .before .before .before .before .before .before .args .coarse .now)
-filled c = let s = c .before .before .before .before .before .before .before in ap length (c .fill-coarse .ensures) ∙ length-coarseFilled (s .args .acc .now) (s .args .coarse .now) (s .args .d .factor)
+filled c =
+    let halfway = c .before .before .before .before .before in
+    let place = halfway .before .before in
+    let s = place in ap length (c .fill-coarse .ensures)
+    ∙ length-coarseFilled (s .args .acc .now) (s .args .coarse .now) (s .args .d .factor)
 
 decimated-requires : tie.Need-decimated-requires
 decimated-requires c κs =
@@ -30,7 +37,8 @@ lay-requires c κs =
     let fill = c .before .before .before .before .before in
     let s = fill .before .before .before .before .before .before .before in
     let d = s .args .d in
-    let row : length (c .decimated .result .now) ≡ suc (d .grid .width) = ap length (c .decimated .ensures) ∙ rw (add-one (d .grid .width)) (length-handedOn _ _ _ _ (acc-wide d _ _ _ (s .pre .0)) (rw (filled fill) (coarse-wide d _ _ _ (s .pre .0)))) in
+    let row : length (c .decimated .result .now) ≡ suc (d .grid .width) = ap length (c .decimated .ensures)
+    ∙ rw (add-one (d .grid .width)) (length-handedOn _ _ _ _ (acc-wide d _ _ _ (s .pre .0)) (rw (filled fill) (coarse-wide d _ _ _ (s .pre .0)))) in
     row-room d _ _ _ (s .pre .0) _ _ (s .pre .1) row
 
 returns : tie.Need-returns

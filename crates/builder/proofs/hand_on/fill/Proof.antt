@@ -23,7 +23,8 @@ loop-holds c =
 
 -- the sample read is within acc
 inside : (c : tie.In-loop Inv-loop μ-loop) → c .before .loop .j * c .before .before .args .factor < length (c .before .before .args .acc .now)
-inside c = sample-in (c .before .loop .j) (length (c .before .before .args .coarse .now)) (c .before .before .args .factor) _ (omega arith) (c .before .before .pre)
+inside c =
+    sample-in (c .before .loop .j) (length (c .before .before .args .coarse .now)) (c .before .before .args .factor) _ (omega arith) (c .before .before .pre)
 
 mul-coarse : tie.Need-mul-coarse Inv-loop μ-loop
 mul-coarse c = omega (arith, inside c)

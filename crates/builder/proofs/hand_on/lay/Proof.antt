@@ -30,7 +30,8 @@ returns : tie.Need-returns
 returns c =
     let placed = c .before .before .before .before in
     let s = placed .before .before .before .args in
-    rw (c .before .before .emit .ensures) (laid-back (s .grid .width) (s .at) (placed .cell-at .result) (s .table .now) (s .row .now) (placed .cell-at .ensures) (room placed))
+    rw (c .before .before .emit .ensures)
+    (laid-back (s .grid .width) (s .at) (placed .cell-at .result) (s .table .now) (s .row .now) (placed .cell-at .ensures) (room placed))
 
 pub lay-spec : {M : Type 1} → statement M
 lay-spec =

@@ -15,8 +15,12 @@ mul-cells c =
 
 returns : tie.Need-returns
 returns c =
-    let s = c .before .before .before .before .before .before in
-    rw (too-many (length (s .args .card .now)) (s .args .h .«rows_at») (s .args .h .decimation .source .width * s .args .h .decimation .source .height) (s .pre) (c .if1 .taken))
+    let halfway = c .before .before .before .before .before in
+    let place = halfway .before in
+    let s = place in
+    let h = s .args .h in
+    let source = h .decimation .source in
+    rw (too-many (length (s .args .card .now)) (h .«rows_at») (source .width * source .height) (s .pre) (c .if1 .taken))
 
 returns-2 : tie.Need-returns-2
 returns-2 c = simp (c .before .before .is-inside .ensures, c .is-inside2 .ensures)

@@ -17,19 +17,47 @@ returns-2 c = simp (le-ltb _ _ (c .before .if1 .left), lt-ltb _ _ (c .if2 .taken
 returns-3 : tie.Need-returns-3
 unfolding readHeader
 returns-3 c =
-    simp (le-ltb _ _ (c .before .before .before .if1 .left), le-ltb _ _ (c .before .before .if2 .left), ← c .before .u32-at .ensures, ne-eqb _ _ (c .if3 .taken))
+    simp (
+      le-ltb _ _ (c .before .before .before .if1 .left),
+      le-ltb _ _ (c .before .before .if2 .left),
+      ← c .before .u32-at .ensures,
+      ne-eqb _ _ (c .if3 .taken),
+    )
 
 returns-4 : tie.Need-returns-4
 unfolding readHeader
 returns-4 c =
-    let e = rw (c .before .before .made .given .1) at (c .before .before .before .before .grid-at .ensures) in
-    simp (le-ltb _ _ (c .before .before .before .before .before .before .before .before .if1 .left), le-ltb _ _ (c .before .before .before .before .before .before .before .if2 .left), ← c .before .before .before .before .before .before .u32-at .ensures, eq-eqb _ _ (c .before .before .before .before .before .if3 .left), ← e, c .with-grid .ensures)
+    let after-grid-at = c .before .before .before .before in
+    let after-if3 = after-grid-at .before in
+    let after-u32-at = after-if3 .before in
+    let after-if2 = after-u32-at .before in
+    let after-if1 = after-if2 .before in
+    let e = rw (c .before .before .made .given .1) at (after-grid-at .grid-at .ensures) in
+    simp (
+      le-ltb _ _ (after-if1 .if1 .left),
+      le-ltb _ _ (after-if2 .if2 .left),
+      ← after-u32-at .u32-at .ensures,
+      eq-eqb _ _ (after-if3 .if3 .left),
+      ← e,
+      c .with-grid .ensures,
+    )
 
 returns-5 : tie.Need-returns-5
 unfolding readHeader
 returns-5 c =
-    let e = rw (c .before .made2 .given .1) at (c .before .before .before .grid-at .ensures) in
-    simp (le-ltb _ _ (c .before .before .before .before .before .before .before .if1 .left), le-ltb _ _ (c .before .before .before .before .before .before .if2 .left), ← c .before .before .before .before .before .u32-at .ensures, eq-eqb _ _ (c .before .before .before .before .if3 .left), ← e)
+    let after-grid-at = c .before .before .before in
+    let after-if3 = after-grid-at .before in
+    let after-u32-at = after-if3 .before in
+    let after-if2 = after-u32-at .before in
+    let after-if1 = after-if2 .before in
+    let e = rw (c .before .made2 .given .1) at (after-grid-at .grid-at .ensures) in
+    simp (
+      le-ltb _ _ (after-if1 .if1 .left),
+      le-ltb _ _ (after-if2 .if2 .left),
+      ← after-u32-at .u32-at .ensures,
+      eq-eqb _ _ (after-if3 .if3 .left),
+      ← e,
+    )
 
 pub read-header-spec : {M : Type 1} → statement M
 read-header-spec =

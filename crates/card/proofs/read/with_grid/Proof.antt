@@ -8,7 +8,13 @@ use Rattle.card.proofs.read.with_grid.Tie as tie
 
 returns : tie.Need-returns
 returns c =
-    let e = rw (c .before .before .before .before .before .before .u32-at .ensures, c .before .before .before .made .given .1) at (c .before .before .before .before .before .new .ensures) in
+    let after-made = c .before .before .before in
+    let after-new = after-made .before .before in
+    let after-u32-at = after-new .before in
+    let e = rw (
+      after-u32-at .u32-at .ensures,
+      after-made .made .given .1,
+    ) at (after-new .new .ensures) in
     decimation-read _ _ _ _ _ (sym e) (c .before .header-at .ensures) (c .with-header .ensures)
 
 returns-2 : tie.Need-returns-2

@@ -19,7 +19,8 @@ returns-2 c =
     let valid = grid .before .before in
     let d = valid .before .before .before .args .self in
     let v = sym (valid .is-valid .ensures) ∙ not-false (valid .is-valid .result) (grid .before .if1 .left) in
-    let p = answered-passed (factorRefusal (d .source) (d .factor)) (coarseGrid (d .source) (d .factor)) _ (sym (rw (c .before .before .made .given .1) at (grid .coarse-grid .ensures))) in
+    let answer = rw (c .before .before .made .given .1) at (grid .coarse-grid .ensures) in
+    let p = answered-passed (factorRefusal (d .source) (d .factor)) (coarseGrid (d .source) (d .factor)) _ (sym answer) in
     rw (v, p .0, p .1) (c .same .ensures)
 
 returns-3 : tie.Need-returns-3
@@ -29,7 +30,8 @@ returns-3 c =
     let valid = grid .before .before in
     let d = valid .before .before .before .args .self in
     let v = sym (valid .is-valid .ensures) ∙ not-false (valid .is-valid .result) (grid .before .if1 .left) in
-    let p = refused-fails (factorRefusal (d .source) (d .factor)) _ (coarseGrid (d .source) (d .factor)) (sym (rw (c .enum-told .given .1) at (grid .coarse-grid .ensures))) in
+    let answer = rw (c .enum-told .given .1) at (grid .coarse-grid .ensures) in
+    let p = refused-fails (factorRefusal (d .source) (d .factor)) _ (coarseGrid (d .source) (d .factor)) (sym answer) in
     rw (v, p)
 
 pub is-valid-spec : {M : Type 1} → statement M

@@ -15,17 +15,29 @@ returns c = simp (← c .before .is-valid .ensures, c .if1 .taken)
 returns-2 : tie.Need-returns-2
 unfolding decimationNew
 returns-2 c =
-    let s = c .before .before .before .before .before .before .args in
-    let v = sym (c .before .before .before .before .before .is-valid .ensures) ∙ not-false (c .before .before .before .before .before .is-valid .result) (c .before .before .before .before .if1 .left) in
-    let p = answered-passed (factorRefusal (s .source) (s .factor)) (coarseGrid (s .source) (s .factor)) _ (sym (rw (c .before .made .given .1) at (c .before .before .before .coarse-grid .ensures))) in
+    let after-coarse-grid = c .before .before .before in
+    let after-if1 = after-coarse-grid .before in
+    let after-is-valid = after-if1 .before in
+    let start = after-is-valid .before in
+    let s = start .args in
+    let v = sym (after-is-valid .is-valid .ensures)
+    ∙ not-false (after-is-valid .is-valid .result) (after-if1 .if1 .left) in
+    let answer = rw (c .before .made .given .1) at (after-coarse-grid .coarse-grid .ensures) in
+    let p = answered-passed (factorRefusal (s .source) (s .factor)) (coarseGrid (s .source) (s .factor)) _ (sym answer) in
     rw (v, p .0, p .1)
 
 returns-3 : tie.Need-returns-3
 unfolding decimationNew
 returns-3 c =
-    let s = c .before .before .before .before .before .before .args in
-    let v = sym (c .before .before .before .before .before .is-valid .ensures) ∙ not-false (c .before .before .before .before .before .is-valid .result) (c .before .before .before .before .if1 .left) in
-    rw v (sym (refused-alike (factorRefusal (s .source) (s .factor)) _ (coarseGrid (s .source) (s .factor)) _ (sym (rw (c .before .made2 .given .1) at (c .before .before .before .coarse-grid .ensures)))))
+    let after-coarse-grid = c .before .before .before in
+    let after-if1 = after-coarse-grid .before in
+    let after-is-valid = after-if1 .before in
+    let start = after-is-valid .before in
+    let s = start .args in
+    let v = sym (after-is-valid .is-valid .ensures)
+    ∙ not-false (after-is-valid .is-valid .result) (after-if1 .if1 .left) in
+    let answer = rw (c .before .made2 .given .1) at (after-coarse-grid .coarse-grid .ensures) in
+    rw v (sym (refused-alike (factorRefusal (s .source) (s .factor)) _ (coarseGrid (s .source) (s .factor)) _ (sym answer)))
 
 pub new-spec : {M : Type 1} → statement M
 new-spec =

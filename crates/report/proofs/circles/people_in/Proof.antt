@@ -11,12 +11,14 @@ returns c = radius-refused _ _ _ (rw (c .before .measured2 .given .1) at (c .bef
 
 returns-2 : tie.Need-returns-2
 returns-2 c =
-    let p = c .before .before .before .before .before .before .before in
+    let after-made = c .before .before .before in
+    let place = after-made .before .before .before .before in
+    let p = place in
     let kernel = p .new2 .ensures in
     let told = p .before .before .before in
     let s = told .before .before .before .before .before in
     let radius = rw (told .measured .given .1) at (told .before .before .new .ensures) in
-    let made = rw (c .before .before .before .made .given .1) at (kernel .0) in
+    let made = rw (after-made .made .given .1) at (kernel .0) in
     c .population .ensures ∙ circle-counted (s .args .g) (s .args .c) _ radius (s .pre) made (kernel .1)
 
 returns-3 : tie.Need-returns-3

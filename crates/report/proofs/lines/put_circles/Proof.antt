@@ -34,17 +34,24 @@ people-in-requires c κs =
 
 add-i : tie.Need-add-i Inv-loop μ-loop
 add-i c =
-    let test = c .before .before .before .before .before .before .before .before in
+    let halfway = c .before .before .before .before .before in
+    let place = halfway .before .before .before in
+    let test = place in
     let s = test .before .before .before .before .before .before .before .before in
     omega (arith, test .if1 .taken, s .pre .0 .circles, s .pre .0 .whole)
 
 loop-less : tie.Need-loop-less Inv-loop μ-loop
-loop-less c = omega (arith, c .before .before .before .before .before .before .before .before .if1 .taken)
+loop-less c =
+    let halfway = c .before .before .before .before .before in
+    let after-if1 = halfway .before .before .before in
+    omega (arith, after-if1 .if1 .taken)
 
 loop-again : tie.Need-loop-again Inv-loop μ-loop
 loop-again c =
-    let people-in = c .before .before .before .before .before .people-in in
-    let read = c .before .before .before .before .before .before .before in
+    let after-people-in = c .before .before .before .before .before in
+    let place = after-people-in .before .before in
+    let people-in = after-people-in .people-in in
+    let read = place in
     let l = read .before .before .before .loop .inv in
     let line = rw (people-in .ensures, read .circle-at .ensures) at (c .before .before .put-circle .ensures) in
     (rw add-one (laid-then (l .0) line), omega (arith, read .before .if1 .taken), l .2 ∙ sym (people-in .kept .1 .1 .1 .0))
@@ -54,8 +61,10 @@ same-length c = laid-length (c .before .before .loop .inv .0)
 
 returns : tie.Need-returns Inv-loop μ-loop
 returns c =
+    let halfway = c .before .before .before .before .before in
+    let start = halfway .before .before .before in
     let l = c .before .before .loop in
-    let e : l .i ≡ c .before .before .before .before .before .before .before .before .args .h .circles = omega (arith, c .if1 .left, l .inv .1) in
+    let e : l .i ≡ start .args .h .circles = omega (arith, c .if1 .left, l .inv .1) in
     rw e at (l .inv .0)
 
 pub put-circles-spec : {M : Type 1} → statement M

@@ -26,15 +26,19 @@ build-requires c κs =
 
 put-circles-requires : tie.Need-put-circles-requires
 put-circles-requires c κs =
-    let told = c .before .before .before .before .before .before .before in
+    let halfway = c .before .before .before .before .before in
+    let place = halfway .before .before in
+    let told = place in
     let p = told .before .before .before .before in
     let s = p .before .before .before .before .before .before .before in
     (s .pre, rw (p .build .ensures .filled) (table-filled (s .pre)))
 
 returns : tie.Need-returns
 returns c =
-    let put-circles = c .before .before .before .put-circles .ensures in
-    let p = c .before .before .before .before .before .before .before .before in
+    let after-put-circles = c .before .before .before in
+    let place = after-put-circles .before .before .before .before .before in
+    let put-circles = after-put-circles .put-circles .ensures in
+    let p = place in
     let told = p .before .before .before in
     let q = told .before .before .before .before in
     let s = q .before .before .before .before .before .before .before in
@@ -42,7 +46,9 @@ returns c =
 
 returns-2 : tie.Need-returns-2
 returns-2 c =
-    let told = c .before .before .before .before .before .before in
+    let halfway = c .before .before .before .before .before in
+    let place = halfway .before in
+    let told = place in
     never (rw (told .built2 .given .1) at (told .before .before .before .before .build .ensures .table))
 
 pub report-spec : {M : Type 1} → statement M

@@ -12,12 +12,30 @@ returns c = simp (← c .before .before .before .cell .ensures, c .before .first
 returns-2 : tie.Need-returns-2
 unfolding covering
 returns-2 c =
-    simp (← c .before .before .before .before .before .before .before .cell .ensures, c .before .before .before .before .before .first2 .given .1, ← c .before .before .before .cell2 .ensures, c .before .last .given .1)
+    let after-cell2 = c .before .before .before in
+    let after-first2 = after-cell2 .before .before in
+    let after-cell = after-first2 .before .before in
+    simp (
+      ← after-cell .cell .ensures,
+      after-first2 .first2 .given .1,
+      ← after-cell2 .cell2 .ensures,
+      c .before .last .given .1,
+    )
 
 returns-3 : tie.Need-returns-3
 unfolding covering
 returns-3 c =
-    rw (← c .before .before .before .before .before .before .before .before .before .cell .ensures, c .before .before .before .before .before .before .before .first2 .given .1, ← c .before .before .before .before .before .cell2 .ensures, c .before .before .before .last2 .given .1, ← c .before .new .ensures) (c .with-columns .ensures)
+    let after-last2 = c .before .before .before in
+    let after-cell2 = after-last2 .before .before in
+    let after-first2 = after-cell2 .before .before in
+    let after-cell = after-first2 .before .before in
+    rw (
+      ← after-cell .cell .ensures,
+      after-first2 .first2 .given .1,
+      ← after-cell2 .cell2 .ensures,
+      after-last2 .last2 .given .1,
+      ← c .before .new .ensures,
+    ) (c .with-columns .ensures)
 
 pub covering-spec : {M : Type 1} → statement M
 covering-spec =

@@ -12,7 +12,19 @@ returns c = simp (← c .before .before .is-valid .ensures, c .if1 .taken)
 returns-2 : tie.Need-returns-2
 unfolding rectangleRefusal
 returns-2 c =
-    simp (← c .before .before .before .before .before .before .before .before .before .is-valid .ensures, c .before .before .before .before .before .before .before .if1 .left, c .first3 .ensures, c .before .first2 .ensures, c .before .before .first .ensures, c .before .before .before .span-on-grid .ensures, ← c .before .before .before .before .before .before .is-over .ensures)
+    let after-span-on-grid = c .before .before .before in
+    let after-is-over = after-span-on-grid .before .before .before in
+    let after-if1 = after-is-over .before in
+    let after-is-valid = after-if1 .before .before in
+    simp (
+      ← after-is-valid .is-valid .ensures,
+      after-if1 .if1 .left,
+      c .first3 .ensures,
+      c .before .first2 .ensures,
+      c .before .before .first .ensures,
+      after-span-on-grid .span-on-grid .ensures,
+      ← after-is-over .is-over .ensures,
+    )
 
 pub rectangle-refusal-spec : {M : Type 1} → statement M
 rectangle-refusal-spec =

@@ -13,11 +13,31 @@ returns-2 c =
 
 returns-3 : tie.Need-returns-3
 returns-3 c =
-    simp (c .before .before .before .before .before .before .before .before .if1 .left, ← c .before .before .before .before .before .before .before .cell .ensures, c .before .before .before .before .before .first2 .given .1, ← c .before .before .before .cell2 .ensures, c .before .last .given .1)
+    let after-cell2 = c .before .before .before in
+    let after-first2 = after-cell2 .before .before in
+    let after-cell = after-first2 .before .before in
+    let after-if1 = after-cell .before in
+    simp (
+      after-if1 .if1 .left,
+      ← after-cell .cell .ensures,
+      after-first2 .first2 .given .1,
+      ← after-cell2 .cell2 .ensures,
+      c .before .last .given .1,
+    )
 
 returns-4 : tie.Need-returns-4
 returns-4 c =
-    simp (c .before .before .before .before .before .before .before .before .if1 .left, ← c .before .before .before .before .before .before .before .cell .ensures, c .before .before .before .before .before .first2 .given .1, ← c .before .before .before .cell2 .ensures, c .before .last2 .given .1)
+    let after-cell2 = c .before .before .before in
+    let after-first2 = after-cell2 .before .before in
+    let after-cell = after-first2 .before .before in
+    let after-if1 = after-cell .before in
+    simp (
+      after-if1 .if1 .left,
+      ← after-cell .cell .ensures,
+      after-first2 .first2 .given .1,
+      ← after-cell2 .cell2 .ensures,
+      c .before .last2 .given .1,
+    )
 
 pub with-columns-spec : {M : Type 1} → statement M
 with-columns-spec =

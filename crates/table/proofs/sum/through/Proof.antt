@@ -20,7 +20,9 @@ returns c = rw (le-leb _ _ (c .before .if1 .taken), c .box-sum .ensures, add-one
 
 box-sum-requires-3 : tie.Need-box-sum-requires-3
 box-sum-requires-3 c κs =
-    let p = c .before .before .before .before .before .before .pre in
+    let halfway = c .before .before .before .before .before in
+    let start = halfway .before in
+    let p = start .pre in
     (p .0, p .1, omega arith, cell-before _ _ _ _ _ _ (p .4) (omega arith) (omega arith))
 
 returns-2 : tie.Need-returns-2

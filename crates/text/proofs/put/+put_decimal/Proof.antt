@@ -87,7 +87,10 @@ put-decimal-same-length-2 : (t : ℕ) → put-decimal-lts.Need-same-length-2 (
   put-decimal-below t,
   put-decimal.Post,
 ) (put-decimal-at t) put-decimal.Post
-put-decimal-same-length-2 t c = c .before .before .put-byte2 .kept .0 ∙ c .before .before .before .before .before .before .before .put-decimal .kept .0
+put-decimal-same-length-2 t c =
+    let halfway = c .before .before .before .before .before in
+    let after-put-decimal = halfway .before .before in
+    c .before .before .put-byte2 .kept .0 ∙ after-put-decimal .put-decimal .kept .0
 
 put-decimal-returns-2 : (t : ℕ) → put-decimal-lts.Need-returns-2 (
   digit-reads.Asked,
@@ -101,7 +104,10 @@ put-decimal-returns-2 t c =
     let digit = c .before .before .before in
     let most = digit .before .before .before .before in
     let s = most .before .before .before .before in
-    rw (decimal-more (s .args .n) (most .before .before .if1 .left), ← digit .digit2 .ensures) (laid-then (most .put-decimal .ensures) (c .before .before .put-byte2 .ensures))
+    rw (
+      decimal-more (s .args .n) (most .before .before .if1 .left),
+      ← digit .digit2 .ensures,
+    ) (laid-then (most .put-decimal .ensures) (c .before .before .put-byte2 .ensures))
 
 pub +put-decimal-spec : {M : Type 1} → statement M
 +put-decimal-spec = close μ-put-decimal λ t. put-decimal-lts.spec (

@@ -74,7 +74,10 @@ put-hex-same-length : (t : ℕ) → put-hex-lts.Need-same-length (
   put-byte-reads.Asked,
   put-byte-reads.Learnt,
 ) (put-hex-at t) put-hex.Post
-put-hex-same-length t c = c .before .before .put-byte .kept .0 ∙ c .before .before .before .before .before .before .before .put-hex .kept .0
+put-hex-same-length t c =
+    let halfway = c .before .before .before .before .before in
+    let after-put-hex = halfway .before .before in
+    c .before .before .put-byte .kept .0 ∙ after-put-hex .put-hex .kept .0
 
 put-hex-returns-2 : (t : ℕ) → put-hex-lts.Need-returns-2 (
   put-hex-below t,
@@ -88,7 +91,10 @@ put-hex-returns-2 t c =
     let digit = c .before .before .before in
     let most = digit .before .before .before .before in
     let s = most .before .before .before .before in
-    rw (hex-more (s .args .k) (s .args .n) (most .before .before .if1 .left), ← digit .hex-digit .ensures) (laid-then (most .put-hex .ensures) (c .before .before .put-byte .ensures))
+    rw (
+      hex-more (s .args .k) (s .args .n) (most .before .before .if1 .left),
+      ← digit .hex-digit .ensures,
+    ) (laid-then (most .put-hex .ensures) (c .before .before .put-byte .ensures))
 
 pub +put-hex-spec : {M : Type 1} → statement M
 +put-hex-spec = close μ-put-hex λ t. put-hex-lts.spec (

@@ -6,7 +6,10 @@ use Rattle.text.proofs.put.put_circle.Statement.{statement}
 use Rattle.text.proofs.put.put_circle.Tie as tie
 
 returns : tie.Need-returns
-returns c = laid-then (c .before .before .before .before .before .before .put-bytes .ensures) (c .before .before .put-number .ensures)
+returns c =
+    let halfway = c .before .before .before .before .before in
+    let after-put-bytes = halfway .before in
+    laid-then (after-put-bytes .put-bytes .ensures) (c .before .before .put-number .ensures)
 
 pub put-circle-spec : {M : Type 1} → statement M
 put-circle-spec =

@@ -6,7 +6,10 @@ use Rattle.text.proofs.put.put_number.Statement.{statement}
 use Rattle.text.proofs.put.put_number.Tie as tie
 
 returns : tie.Need-returns
-returns c = laid-then (c .before .before .before .before .before .before .put-decimal .ensures) (c .before .before .put-byte .ensures)
+returns c =
+    let halfway = c .before .before .before .before .before in
+    let after-put-decimal = halfway .before in
+    laid-then (after-put-decimal .put-decimal .ensures) (c .before .before .put-byte .ensures)
 
 pub put-number-spec : {M : Type 1} → statement M
 put-number-spec = tie.close (tie.spec (λ c κs. search needs) (λ c κs. search needs) (λ c. search needs) returns)

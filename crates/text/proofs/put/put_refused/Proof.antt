@@ -8,7 +8,10 @@ use Rattle.text.proofs.put.put_refused.Tie as tie
 
 returns : tie.Need-returns
 unfolding refusedLine
-returns c = laid-then (c .before .before .before .before .before .before .put-bytes .ensures) (c .before .before .put-number .ensures)
+returns c =
+    let halfway = c .before .before .before .before .before in
+    let after-put-bytes = halfway .before in
+    laid-then (after-put-bytes .put-bytes .ensures) (c .before .before .put-number .ensures)
 
 pub put-refused-spec : {M : Type 1} → statement M
 put-refused-spec =

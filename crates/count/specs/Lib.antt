@@ -1,0 +1,2 @@
+-- The definition that the contracts of `count` cite.
+pub mod Input
