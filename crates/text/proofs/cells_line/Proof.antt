@@ -10,8 +10,7 @@ returns : tie.Need-returns
 unfolding cellsLine
 returns c =
     let halfway = c .before .before .before .before .before in
-    let place = halfway .before in
-    let zero = place in
+    let zero = halfway .before in
     let negative = zero .before .before .before .before in
     let nodata = negative .before .before .before .before in
     let word = nodata .before .before .before .before in

@@ -10,8 +10,7 @@ returns : tie.Need-returns
 unfolding circleLine
 returns c =
     let halfway = c .before .before .before .before .before in
-    let place = halfway .before in
-    let circle = place in
+    let circle = halfway .before in
     laid-parts (shown (circle .before .before .before .args .people)) newline (circle .put-circle .ensures) (c .before .before .put-shown .ensures)
 
 pub circle-line-spec : {M : Type 1} → statement M

@@ -43,8 +43,7 @@ roomy c =
 decimated-requires : tie.Need-decimated-requires
 decimated-requires c κs =
     let halfway = c .before .before .before .before .before in
-    let place = halfway .before .before .before .before .before in
-    let cleared = place in
+    let cleared = halfway .before .before .before .before .before in
     let d = cleared .before .before .before .before .before .before .before .before .args .d in
     (rw (add-one (d .grid .width)) (acc-wide d _ _ _ (roomy cleared)), rw (add-one (d .grid .width)) (coarse-wide d _ _ _ (roomy cleared)))
 
@@ -52,8 +51,7 @@ lay-requires : tie.Need-lay-requires
 lay-requires c κs =
     let halfway = c .before .before .before .before .before in
     let further = halfway .before .before .before .before .before in
-    let place = further .before in
-    let cleared = place in
+    let cleared = further .before in
     let d = cleared .before .before .before .before .before .before .before .before .args .d in
     let row : length (c .decimated .result .now) ≡ suc (d .grid .width) = ap length (c .decimated .ensures)
     ∙ rw (add-one (d .grid .width)) (length-handedOn _ _ _ _ (acc-wide d _ _ _ (roomy cleared)) (coarse-wide d _ _ _ (roomy cleared))) in

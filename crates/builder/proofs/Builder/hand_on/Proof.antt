@@ -12,20 +12,17 @@ use Rattle.builder.proofs.Builder.hand_on.Tie as tie
 rem-if1 : tie.Need-rem-if1
 rem-if1 c =
     let halfway = c .before .before .before .before .before in
-    let place = halfway .before in
-    let s = place in framed (s .args .self .decimation) (s .pre .0 .valid) .some
+    let s = halfway .before in framed (s .args .self .decimation) (s .pre .0 .valid) .some
 
 div-complete-row : tie.Need-div-complete-row
 div-complete-row c =
     let halfway = c .before .before .before .before .before in
-    let place = halfway .before .before .before in
-    let s = place in framed (s .args .self .decimation) (s .pre .0 .valid) .some
+    let s = halfway .before .before .before in framed (s .args .self .decimation) (s .pre .0 .valid) .some
 
 complete-row-requires : tie.Need-complete-row-requires
 complete-row-requires c κs =
     let halfway = c .before .before .before .before .before in
-    let place = halfway .before .before .before .before .before in
-    let s = place in
+    let s = halfway .before .before .before .before .before in
     let b = s .args .self in
     (s .pre .0, rw (add-one (b .rows)) (completed-inside (b .decimation) (b .rows) (framed (b .decimation) (s .pre .0 .valid)) (s .pre .1)))
 

@@ -20,8 +20,7 @@ take-row-requires c κs = let passed = c .before .before .before .before .before
 returns-2 : tie.Need-returns-2
 returns-2 c =
     let halfway = c .before .before .before .before .before in
-    let place = halfway .before .before .before .before .before in
-    let taken = place in
+    let taken = halfway .before .before .before .before .before in
     let passed = taken .before .before .before .before .before .before in
     let checked = passed .before in
     let a = checked .before .before .before .before .before .before .args in

@@ -15,8 +15,7 @@ returns c = simp (← c .before .is-valid .ensures, c .if1 .taken)
 lent-refusal-requires : tie.Need-lent-refusal-requires
 lent-refusal-requires c κs =
     let halfway = c .before .before .before .before .before in
-    let place = halfway .before in
-    let fine = place in
+    let fine = halfway .before in
     let valid = fine .before in
     standing (valid .before .args .self) (sym (valid .is-valid .ensures) ∙ not-false (valid .is-valid .result) (fine .if1 .left)) .made
 

@@ -12,8 +12,7 @@ begin-requires c κs =
 returns : tie.Need-returns
 returns c =
     let halfway = c .before .before .before .before .before in
-    let place = halfway .before .before .before in
-    let begun = place in
+    let begun = halfway .before .before .before in
     let made = begun .before .before .before .before .before .before in
     let p = made-again _ _ _ (rw (made .made .given .1) at (made .before .before .new .ensures)) in
     rw (p .0, p .1) at (begun .begin .ensures)

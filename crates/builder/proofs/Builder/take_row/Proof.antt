@@ -21,8 +21,7 @@ taken s =
 hand-on-requires : tie.Need-hand-on-requires
 hand-on-requires c κs =
     let halfway = c .before .before .before .before .before in
-    let place = halfway .before .before in
-    let swept = place in
+    let swept = halfway .before .before in
     let s = swept .before .before .before .before .before .before .before .before .before .before .before .before .before .before .before .before in
     let t = taken s in
     let same : length (swept .sweep-row .last .0) ≡ length (s .args .acc .now) = ap length (swept .sweep-row .ensures .1)
@@ -37,8 +36,7 @@ add-t27 c =
     let first-of-all = further .before .before .before .before .before in
     let first-of-all = first-of-all .before .before .before .before .before in
     let first-of-all = first-of-all .before .before .before .before .before in
-    let place = first-of-all .before .before .before .before in
-    let s = place in omega (arith, rows-fit _ _ _ (taken s))
+    let s = first-of-all .before .before .before .before in omega (arith, rows-fit _ _ _ (taken s))
 
 returns : tie.Need-returns
 returns c =

@@ -14,15 +14,13 @@ use Rattle.builder.proofs.hand_on.complete_row.Tie as tie
 fill-coarse-requires : tie.Need-fill-coarse-requires
 fill-coarse-requires c κs =
     let halfway = c .before .before .before .before .before in
-    let place = halfway .before in
-    let s = place in samples (s .args .d) _ _ _ (s .pre .0)
+    let s = halfway .before in samples (s .args .d) _ _ _ (s .pre .0)
 
 -- the coarse row keeps its length
 filled : (c : tie.After-fill-coarse) → length (c .fill-coarse .last .0) ≡ length (c .before .before .before .before .before .before .before .args .coarse .now)
 filled c =
     let halfway = c .before .before .before .before .before in
-    let place = halfway .before .before in
-    let s = place in ap length (c .fill-coarse .ensures)
+    let s = halfway .before .before in ap length (c .fill-coarse .ensures)
     ∙ length-coarseFilled (s .args .acc .now) (s .args .coarse .now) (s .args .d .factor)
 
 decimated-requires : tie.Need-decimated-requires

@@ -16,8 +16,7 @@ mul-cells c =
 returns : tie.Need-returns
 returns c =
     let halfway = c .before .before .before .before .before in
-    let place = halfway .before in
-    let s = place in
+    let s = halfway .before in
     let h = s .args .h in
     let source = h .decimation .source in
     rw (too-many (length (s .args .card .now)) (h .«rows_at») (source .width * source .height) (s .pre) (c .if1 .taken))

@@ -64,8 +64,7 @@ slice-aggregate-coarse c = let b = c .before .before .before .before in front-le
 same-length : tie.Need-same-length Inv-loop μ-loop
 same-length c =
     let halfway = c .before .before .before .before .before in
-    let place = halfway .before .before in
-    let left = place in
+    let left = halfway .before .before in
     left .before .before .before .before .before .before .before .before .start .kept .1 .1 .1 .1 .1 .1 .0
 
 returns : tie.Need-returns Inv-loop μ-loop

@@ -12,8 +12,7 @@ returns c = radius-refused _ _ _ (rw (c .before .measured2 .given .1) at (c .bef
 returns-2 : tie.Need-returns-2
 returns-2 c =
     let after-made = c .before .before .before in
-    let place = after-made .before .before .before .before in
-    let p = place in
+    let p = after-made .before .before .before .before in
     let kernel = p .new2 .ensures in
     let told = p .before .before .before in
     let s = told .before .before .before .before .before in

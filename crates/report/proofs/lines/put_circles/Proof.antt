@@ -35,8 +35,7 @@ people-in-requires c κs =
 add-i : tie.Need-add-i Inv-loop μ-loop
 add-i c =
     let halfway = c .before .before .before .before .before in
-    let place = halfway .before .before .before in
-    let test = place in
+    let test = halfway .before .before .before in
     let s = test .before .before .before .before .before .before .before .before in
     omega (arith, test .if1 .taken, s .pre .0 .circles, s .pre .0 .whole)
 

@@ -27,8 +27,7 @@ build-requires c κs =
 put-circles-requires : tie.Need-put-circles-requires
 put-circles-requires c κs =
     let halfway = c .before .before .before .before .before in
-    let place = halfway .before .before in
-    let told = place in
+    let told = halfway .before .before in
     let p = told .before .before .before .before in
     let s = p .before .before .before .before .before .before .before in
     (s .pre, rw (p .build .ensures .filled) (table-filled (s .pre)))
@@ -47,8 +46,7 @@ returns c =
 returns-2 : tie.Need-returns-2
 returns-2 c =
     let halfway = c .before .before .before .before .before in
-    let place = halfway .before in
-    let told = place in
+    let told = halfway .before in
     never (rw (told .built2 .given .1) at (told .before .before .before .before .build .ensures .table))
 
 pub report-spec : {M : Type 1} → statement M

@@ -8,8 +8,7 @@ use Rattle.text.proofs.put.put_bits.Tie as tie
 returns : tie.Need-returns
 returns c =
     let halfway = c .before .before .before .before .before in
-    let place = halfway .before in
-    let digits = place in
+    let digits = halfway .before in
     laid-then (laid-then (digits .before .before .before .before .put-bytes .ensures) (digits .put-hex .ensures)) (c .before .before .put-byte .ensures)
 
 pub put-bits-spec : {M : Type 1} → statement M

@@ -32,8 +32,7 @@ loop-less c = omega arith
 loop-again : tie.Need-loop-again Inv-loop μ-loop
 loop-again c =
     let halfway = c .before .before .before .before .before in
-    let place = halfway .before in
-    let d = place in
+    let d = halfway .before in
     let text = d .before .before .before .args .text .now in (
       rw (add-one, take-suc text (d .loop .i) 0 (omega arith)) (laid-then (d .loop .inv .0) (c .before .before .put-byte .ensures)),
       omega arith,
