@@ -4,7 +4,6 @@ use lib.Ieee.{Float, binary64, add, neg, ofBits}
 use Rattle.refusal.specs.Refusal.{Outcome, answered, refused}
 use Rattle.float.specs.Constants.{f64one, f64p90, f64p180}
 use Rattle.float.specs.TwoSum.{twoSum}
-use Rattle.geodesy.specs.declared.LatLon.{LatLon}
 use Rattle.geodesy.specs.declared.RadiusKm.{RadiusKm}
 use Rattle.raster.specs.Raster.{noTallies}
 use Rattle.grid.specs.declared.Grid.{Grid}
@@ -38,10 +37,6 @@ unfoldable pub bothParts : Float → Float → Float
 bothParts a b = add binary64 (twoSum a b .sum) (twoSum a b .dropped)
 
 -- ---- the records that the numbers given stand for
-
--- a point by its latitude and longitude
-abbrev pub pointAt : Float → Float → LatLon
-pointAt lat lon = record { lat = lat; lon = lon }
 
 -- a row by its number
 abbrev pub rowOf : ℕ → Row

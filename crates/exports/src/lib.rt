@@ -9,12 +9,13 @@ ghost use Rattle.float.specs.Float.{remEuclid};
 ghost use Rattle.sqrt.specs.Sqrt.{sqrtOf};
 ghost use Rattle.digest.specs.Digest.{digestOf};
 ghost use Rattle.geodesy.specs.Sphere.{greatCircleKm};
+ghost use Rattle.table.specs.Extent.{pointAt};
 ghost use Rattle.table.specs.Rectangle.{rectanglePopulation};
 ghost use Rattle.builder.specs.Build.{buffers, rowCall, rowLeft};
 ghost use Rattle.kernel.specs.Kernel.{kernelNew};
 ghost use Rattle.circle.specs.Circle.{circlePopulation};
 ghost use Rattle.report.specs.Printed.{printed};
-ghost use Rattle.exports.specs.Exports.{orMinusOne, digestOrRefusal, northOrRefusal, bothParts, pointAt, rowOf, colOf, radiusOf};
+ghost use Rattle.exports.specs.Exports.{orMinusOne, digestOrRefusal, northOrRefusal, bothParts, rowOf, colOf, radiusOf};
 ghost use Rattle.exports.specs.Exports.{wideBuilder as wideBuilderOf, globe as globeGrid, globeKernel, bandOf, throughOf};
 
 mod numbers;
