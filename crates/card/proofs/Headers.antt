@@ -1,24 +1,22 @@
 -- What the header's checks give. Assumes nothing.
-use mathlib.Core.Path.{_≡_, refl, sym, subst, _∙_, ap}
-use mathlib.Core.Bool.{Bool, true, false, cond, not}
+use mathlib.Core.Path.{_≡_, subst, _∙_, ap}
+use mathlib.Core.Bool.{false, cond, not}
 use mathlib.Core.List.{List}
 use Prim.Native.Nat.{ℕ, _+_, _*_, _<_, _≤_, _^_}
-use native.Mathlib.Nat.{mul-le-mul, suc-mul, mul-suc, mul-comm}
-use native.Mathlib.Numerals.{add-one}
+use native.Mathlib.Nat.{mul-le-mul}
 use native.Mathlib.Omega.{arith}
 use borrow.Author.Tests.{ltb-false, leb-true, lt-leb, not-false}
 use lib.Dec.{ltb, leb, eqb}
 use lib.Ieee.{binary64}
 use lib.Ieee.Bits.{ofBits-fits}
 use lib.ListN.{length}
-use Rattle.refusal.specs.Refusal.{Outcome, answered, refused, first, passed, outcome, andThen, notItsMakers, cardEndsEarly, cardTooLarge}
+use Rattle.refusal.specs.Refusal.{Outcome, answered, first, passed, outcome, andThen, cardEndsEarly, cardTooLarge}
 use Rattle.refusal.proofs.Chains.{first-passed, answered-passed, went-past, went-on}
 use Rattle.refusal.proofs.Tests.{both}
 use Rattle.grid.specs.declared.Grid.{Grid}
-use Rattle.grid.specs.Grid.{gridNew, validGrid}
+use Rattle.grid.specs.Grid.{gridNew}
 use Rattle.grid.proofs.Wrapped.{made-valid}
 use Rattle.decimation.specs.declared.Decimation.{Decimation}
-use Rattle.table.specs.Place.{tableLength}
 use Rattle.decimation.specs.Decimation.{decimationOf, decimationNew, factorRefusal}
 use Rattle.decimation.proofs.Factors.{decimation-made}
 use Rattle.card.specs.declared.Header.{Header}

@@ -1,6 +1,6 @@
 -- A factor that divides a grid, and the coarse grid that it makes. Assumes nothing.
-use mathlib.Core.Path.{_≡_, sym, ap, _∙_}
-use mathlib.Core.Bool.{true, false, not, _&&_, _||_}
+use mathlib.Core.Path.{_≡_, sym, ap}
+use mathlib.Core.Bool.{true, false, not, _||_}
 use Prim.Native.Nat.{ℕ, _*_, _/_, _%_, _≤_, _<_}
 use native.Mathlib.Nat.{pos-of-ne-zero, div-add-mod', mul-one, mul-le-mul-left}
 use native.Mathlib.Omega.{arith}

@@ -2,7 +2,7 @@
 use mathlib.Core.Bool.{Bool, not, _&&_, _||_}
 use Prim.Native.Nat.{ℕ, _/_, _%_}
 use lib.Dec.{eqb}
-use lib.Ieee.{Float, binary64, mul}
+use lib.Ieee.{binary64, mul}
 use Rattle.refusal.specs.Refusal.{Outcome, answered, refused, first, passed, outcome, factorNotDividing, notItsMakers}
 use Rattle.float.specs.Float.{f64of}
 use Rattle.grid.specs.declared.Grid.{Grid}

@@ -1,13 +1,12 @@
 -- FROM THE CARD TO THE DISPLAY. Assumes nothing.
 use Prim.Native.Nat.{ℕ, zero, suc, _^_, _≤_, _<_, zero-le}
 use native.Mathlib.Nat.{le-refl}
-use native.Mathlib.Omega.{arith}
 use mathlib.Core.Path.{_≡_, refl, sym, ap, _∙_}
 use mathlib.Core.Bool.{not}
 use mathlib.Core.List.{List, _++_}
 use borrow.Author.Tests.{leb-false}
 use lib.Dec.{leb}
-use lib.ListN.{length, drop, replicate, length-append}
+use lib.ListN.{length, replicate}
 use lib.Ieee.{lt}
 use lib.Ieee.Scale.{finite}
 use Rattle.refusal.specs.Refusal.{answered, refused, outcome, passed, radiusNotFinite, radiusBelowZero, rowOffGrid, columnsDontClose, columnOffGrid}
@@ -21,7 +20,7 @@ use Rattle.grid.specs.Lookup.{closes}
 use Rattle.decimation.specs.Decimation.{coarseGrid}
 use Rattle.builder.specs.declared.Builder.{Builder}
 use Rattle.builder.specs.Build.{totalOf}
-use Rattle.kernel.specs.Kernel.{rowCount, kernelOf, ownWidths, halfWidths}
+use Rattle.kernel.specs.Kernel.{kernelOf, halfWidths}
 use Rattle.kernel.proofs.Rules.{rows-end, widths-rule}
 use Rattle.kernel.proofs.Makers.{enough-widths}
 use Rattle.circle.proofs.Made.{own-sum}

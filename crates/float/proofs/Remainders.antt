@@ -3,7 +3,7 @@ use mathlib.Core.Path.{_≡_, refl, sym, subst, _∙_, ap}
 use mathlib.Core.Bool.{Bool, true, false, cond, not, _||_, false≢true, true≢false}
 use Prim.Native.Nat.{ℕ, zero, suc, _+_, _-_, _*_, _/_, _%_, _^_, _≤_, _<_}
 use native.Mathlib.Nat.{mul-pos, mul-assoc, mul-comm, mul-left-comm, mul-right-comm, mul-one, one-mul, add-zero, mul-div-cancel, mul-mod-left}
-use native.Mathlib.Nat.{add-mul-mod-self-right, div-add-mod', mod-eq-of-lt, mul-lt-mul-of-pos-right, mul-le-mul, le-refl, add-mul, mul-add, pow-suc}
+use native.Mathlib.Nat.{add-mul-mod-self-right, div-add-mod', mod-eq-of-lt, mul-lt-mul-of-pos-right, mul-le-mul, add-mul, pow-suc}
 use native.Mathlib.Nat.{lt-of-lt-of-le, zero-mul, zero-lt-suc, add-sub-of-le, le-of-lt, pos-of-ne-zero, eq-or-lt-of-le, le-add-right}
 use native.Mathlib.Numerals.{add-one}
 use native.Mathlib.Decide.{decLt}
@@ -14,7 +14,7 @@ use lib.Arith.{mod-mul}
 use lib.Dec.{T, eqb, leb, ltb, le→leb}
 use lib.Pow.{pow-pos, pow-add, pow-mono, pow-lt, shl-lt}
 use lib.IntN.{pos}
-use lib.Ieee.{Float, nan, inf, fin, Format, binary64, prec, low, up, down, hid, top, rem, div, mul, neg, round, unlike, odd, ofFields, ofBits, ofInt, fits}
+use lib.Ieee.{Float, nan, inf, fin, Format, binary64, up, down, rem, div, mul, neg, round, unlike, ofFields, ofBits, ofInt, fits}
 use lib.Ieee.{toBits, inFloat}
 use lib.Ieee.Bits.{ofBits-toBits}
 use Rattle.float.specs.private.Remainder.{PatternUnits, signed}
@@ -23,7 +23,7 @@ use Rattle.float.proofs.Values.{value-unique}
 use lib.Ieee.Fits.{down-pos, up-pos, round-fits}
 use lib.Ieee.Exact.{HasValue, odd-sign, round-exact}
 use lib.Ieee.Back.{round-whole}
-use lib.Ieee.Scale.{finite, round-same}
+use lib.Ieee.Scale.{round-same}
 
 -- ---- whole numbers
 

@@ -17,7 +17,7 @@ use Rattle.builder.specs.declared.Builder.{Builder}
 use Rattle.builder.specs.Build.{Buffers, lengthsOf, validBuilder, firstBuilder, clearedBuffers, startRefusal, startCall}
 use Rattle.builder.specs.Build.{rowCall, builderAfter, buffersAfter, finishCall}
 use Rattle.builder.specs.private.Room.{Sized}
-use Rattle.builder.proofs.Builders.{standing, Taken, Complete, lent-goes-on, start-goes-on, row-passes, finish-passes, first-valid, next-valid}
+use Rattle.builder.proofs.Builders.{standing, Taken, lent-goes-on, start-goes-on, row-passes, finish-passes, first-valid, next-valid}
 use Rattle.builder.proofs.Kept.{sized-cleared, sized-after}
 use Rattle.card.specs.declared.Header.{Header}
 use Rattle.card.specs.Card.{rowAt}

@@ -11,7 +11,7 @@ use lib.Ieee.Back.{round-whole}
 use lib.Ieee.Exact.{HasValue}
 use lib.Ieee.Fits.{down-pos}
 use lib.Ieee.Scale.{finite}
-use Rattle.refusal.specs.Refusal.{Outcome, answered, refused, inNoCell, notItsMakers}
+use Rattle.refusal.specs.Refusal.{answered, inNoCell, notItsMakers}
 use Rattle.refusal.proofs.Chains.{never, went-past}
 use Rattle.refusal.proofs.Tests.{both}
 use Rattle.float.specs.Float.{f64zero, f64of, indexBelow}

@@ -2,7 +2,7 @@
 use mathlib.Core.Path.{_≡_, refl, ap}
 use mathlib.Core.Bool.{true, false, not, _&&_}
 use mathlib.Core.List.{List}
-use Prim.Native.Nat.{ℕ, suc, _-_, _<_, _≤_}
+use Prim.Native.Nat.{ℕ, suc, _-_, _<_}
 use native.Mathlib.Omega.{arith}
 use borrow.Author.Tests.{leb-true, le-leb, leb-false, lt-leb, ltb-true, lt-ltb, not-false}
 use lib.Dec.{leb, ltb}
@@ -21,7 +21,7 @@ use Rattle.table.proofs.Places.{cell-inside, right-table, right-length}
 use Rattle.table.specs.declared.ColSpan.{ColSpan}
 use Rattle.table.specs.declared.ColSpan.the-variants.{Through, FullTurn}
 use Rattle.table.specs.declared.RowBand.{RowBand}
-use Rattle.table.specs.Rectangle.{rowBand, rectangleSum, rectangleHeld, heldSum, spanOnGrid, rectangleRefusal, rectanglePopulation}
+use Rattle.table.specs.Rectangle.{rowBand, rectangleSum, rectangleHeld, heldSum, spanOnGrid, rectangleRefusal}
 use Rattle.table.specs.Extent.{wholeExtent}
 
 -- the checks of a rectangle, 22, 11, 15 and 16, as facts

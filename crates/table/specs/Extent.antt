@@ -1,6 +1,6 @@
 -- `whole` and `covering` of table.rs: the rows and columns of a table, and of a window in degrees.
 use mathlib.Core.Bool.{not, cond}
-use Prim.Native.Nat.{ℕ, _-_}
+use Prim.Native.Nat.{_-_}
 use lib.Ieee.{Float, binary64, sub, le}
 use Rattle.refusal.specs.Refusal.{Outcome, answered, refused, first, passed, outcome, andThen, notItsMakers}
 use Rattle.geodesy.specs.declared.LatLon.{LatLon}

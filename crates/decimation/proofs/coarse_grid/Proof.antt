@@ -36,11 +36,4 @@ returns-2 c =
 pub coarse-grid-spec : {M : Type 1} → statement M
 coarse-grid-spec =
     tie.close
-    (tie.spec
-    (λ c κs. search needs)
-    returns
-    (λ c. search needs)
-    div-width
-    div-height
-    (λ c κs. search needs)
-    returns-2)
+    (tie.spec (λ c κs. search needs) returns (λ c. search needs) div-width div-height (λ c κs. search needs) returns-2)

@@ -14,13 +14,5 @@ returns c =
 pub exports-build-row-spec : {M : Type 1} → statement M
 exports-build-row-spec =
     tie.close
-    (tie.spec
-    (λ c κs. search needs)
-    (λ c κs. search needs)
-    (λ c κs. search needs)
-    (λ c. search needs)
-    (λ c. search needs)
-    (λ c. search needs)
-    (λ c. search needs)
-    (λ c. search needs)
-    returns)
+    (tie.spec (λ c κs. search needs) (λ c κs. search needs) (λ c κs. search needs) (λ c. search needs) (λ c. search needs)
+    (λ c. search needs) (λ c. search needs) (λ c. search needs) returns)

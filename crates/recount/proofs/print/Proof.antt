@@ -15,14 +15,5 @@ slice-aggregate-write-all c = sym (length-take-le _ _ (c .before .if2 .taken))
 pub print-spec : {M : Type 1} → statement M
 print-spec =
     tie.close
-    (tie.spec
-    slice-aggregate-answer
-    (λ c κs. search needs)
-    (λ c. search needs)
-    slice-aggregate-write-all
-    (λ c κs. search needs)
-    (λ c. search needs)
-    (λ c. search needs)
-    (λ c. search needs)
-    (λ c. search needs)
-    (λ c. search needs))
+    (tie.spec slice-aggregate-answer (λ c κs. search needs) (λ c. search needs) slice-aggregate-write-all (λ c κs. search needs)
+    (λ c. search needs) (λ c. search needs) (λ c. search needs) (λ c. search needs) (λ c. search needs))

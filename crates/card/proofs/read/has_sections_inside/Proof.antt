@@ -27,14 +27,5 @@ returns-2 c = simp (c .before .before .is-inside .ensures, c .is-inside2 .ensure
 pub has-sections-inside-spec : {M : Type 1} → statement M
 has-sections-inside-spec =
     tie.close
-    (tie.spec
-    (λ c. search needs)
-    (λ c. search needs)
-    mul-cells
-    returns
-    (λ c. search needs)
-    (λ c κs. search needs)
-    (λ c. search needs)
-    (λ c. search needs)
-    (λ c κs. search needs)
-    returns-2)
+    (tie.spec (λ c. search needs) (λ c. search needs) mul-cells returns (λ c. search needs) (λ c κs. search needs)
+    (λ c. search needs) (λ c. search needs) (λ c κs. search needs) returns-2)

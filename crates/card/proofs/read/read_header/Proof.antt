@@ -62,14 +62,5 @@ returns-5 c =
 pub read-header-spec : {M : Type 1} → statement M
 read-header-spec =
     tie.close
-    (tie.spec
-    returns
-    returns-2
-    (λ c κs. search needs)
-    returns-3
-    (λ c κs. search needs)
-    (λ c. search needs)
-    (λ c κs. search needs)
-    (λ c. search needs)
-    returns-4
-    returns-5)
+    (tie.spec returns returns-2 (λ c κs. search needs) returns-3 (λ c κs. search needs) (λ c. search needs)
+    (λ c κs. search needs) (λ c. search needs) returns-4 returns-5)

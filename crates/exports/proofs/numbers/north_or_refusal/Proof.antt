@@ -11,11 +11,5 @@ returns-2 c = rw (c .before .answer2 .given .1) refl
 pub north-or-refusal-spec : {M : Type 1} → statement M
 north-or-refusal-spec =
     tie.close
-    (tie.spec
-    (λ c. search needs)
-    (λ c. search needs)
-    (λ c. search needs)
-    (λ c. search needs)
-    (λ c. search needs)
-    (λ c. search needs)
-    returns-2)
+    (tie.spec (λ c. search needs) (λ c. search needs) (λ c. search needs) (λ c. search needs) (λ c. search needs)
+    (λ c. search needs) returns-2)

@@ -8,15 +8,6 @@ use Rattle.replay.proofs.answers.put_cells.Tie as tie
 pub put-cells-spec : {M : Type 1} → statement M
 put-cells-spec =
     tie.close
-    (tie.spec
-    (λ out₀ at cells end₀ i₀ out end i. Unit {0})
-    (λ out₀ at cells end₀ i₀ out end i. length cells - i)
-    (λ c. search needs)
-    (λ c. search needs)
-    (λ c. search needs)
-    (λ c κs. search needs)
-    (λ c κs. search needs)
-    (λ c. search needs)
-    (λ c. search needs)
-    (λ c. search needs)
-    (λ c. search needs))
+    (tie.spec (λ out₀ at cells end₀ i₀ out end i. Unit {0}) (λ out₀ at cells end₀ i₀ out end i. length cells - i)
+    (λ c. search needs) (λ c. search needs) (λ c. search needs) (λ c κs. search needs) (λ c κs. search needs)
+    (λ c. search needs) (λ c. search needs) (λ c. search needs) (λ c. search needs))

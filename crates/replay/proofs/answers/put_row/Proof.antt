@@ -8,14 +8,6 @@ use Rattle.replay.proofs.answers.put_row.Tie as tie
 pub put-row-spec : {M : Type 1} → statement M
 put-row-spec =
     tie.close
-    (tie.spec
-    (λ out₀ at row end₀ i₀ out end i. Unit {0})
-    (λ out₀ at row end₀ i₀ out end i. length row - i)
-    (λ c. search needs)
-    (λ c. search needs)
-    (λ c. search needs)
-    (λ c κs. search needs)
-    (λ c. search needs)
-    (λ c. search needs)
-    (λ c. search needs)
+    (tie.spec (λ out₀ at row end₀ i₀ out end i. Unit {0}) (λ out₀ at row end₀ i₀ out end i. length row - i) (λ c. search needs)
+    (λ c. search needs) (λ c. search needs) (λ c κs. search needs) (λ c. search needs) (λ c. search needs) (λ c. search needs)
     (λ c. search needs))

@@ -7,16 +7,6 @@ use Rattle.replay.proofs.text.spell.Tie as tie
 pub spell-spec : {M : Type 1} → statement M
 spell-spec =
     tie.close
-    (tie.spec
-    (λ output₀ at separator digits i₀ output i. i ≤ 16)
-    (λ output₀ at separator digits i₀ output i. 16 - i)
-    (λ c. search needs)
-    (λ c. search needs)
-    (λ c. search needs)
-    (λ c. search needs)
-    (λ c. search needs)
-    (λ c. search needs)
-    (λ c. search needs)
-    (λ c. search needs)
-    (λ c. search needs)
-    (λ c. search needs))
+    (tie.spec (λ output₀ at separator digits i₀ output i. i ≤ 16) (λ output₀ at separator digits i₀ output i. 16 - i)
+    (λ c. search needs) (λ c. search needs) (λ c. search needs) (λ c. search needs) (λ c. search needs) (λ c. search needs)
+    (λ c. search needs) (λ c. search needs) (λ c. search needs) (λ c. search needs))

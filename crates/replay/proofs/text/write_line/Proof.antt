@@ -8,19 +8,7 @@ use Rattle.replay.proofs.text.write_line.Tie as tie
 pub write-line-spec : {M : Type 1} → statement M
 write-line-spec =
     tie.close
-    (tie.spec
-    (λ output₀ waiting words end₀ i₀ output end i. Unit {0})
-    (λ output₀ waiting words end₀ i₀ output end i. length words - i)
-    (λ c. search needs)
-    (λ c κs. search needs)
-    (λ c. search needs)
-    (λ c. search needs)
-    (λ c κs. search needs)
-    (λ c. search needs)
-    (λ c κs. search needs)
-    (λ c κs. search needs)
-    (λ c. search needs)
-    (λ c. search needs)
-    (λ c. search needs)
-    (λ c. search needs)
-    (λ c. search needs))
+    (tie.spec (λ output₀ waiting words end₀ i₀ output end i. Unit {0})
+    (λ output₀ waiting words end₀ i₀ output end i. length words - i) (λ c. search needs) (λ c κs. search needs)
+    (λ c. search needs) (λ c. search needs) (λ c κs. search needs) (λ c. search needs) (λ c κs. search needs)
+    (λ c κs. search needs) (λ c. search needs) (λ c. search needs) (λ c. search needs) (λ c. search needs) (λ c. search needs))

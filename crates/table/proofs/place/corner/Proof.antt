@@ -1,6 +1,5 @@
 -- `table::place::corner` meets its contract.
 -- Assumes nothing.
-use native.Mathlib.Omega.{arith}
 use Rattle.table.specs.Place.{corner}
 use borrow.Author.Needs.{needs}
 use Rattle.table.proofs.place.corner.Statement.{statement}

@@ -1,9 +1,9 @@
 -- `text::put::put_hex` meets its contract. The measure is k.
 -- Assumes nothing.
 use mathlib.Core.Path.{_∙_}
-use Prim.Native.Nat.{_-_, _/_}
+use Prim.Native.Nat.{_-_}
 use native.Mathlib.Omega.{arith}
-use Rattle.text.proofs.Digits.{hex-more, hex-length}
+use Rattle.text.proofs.Digits.{hex-more}
 use Rattle.text.proofs.Laying.{laid-none, laid-then}
 use Prim.Native.Nat.{ℕ, _<_}
 use borrow.Author.Needs.{needs}

@@ -47,14 +47,5 @@ returns c = rw (take-all (c .before .loop .i) (c .before .before .before .before
 pub put-bytes-spec : {M : Type 1} → statement M
 put-bytes-spec =
     tie.close
-    (tie.spec
-    Inv-loop
-    μ-loop
-    loop-holds
-    shared-slice-read-put-byte
-    (λ c κs. search needs)
-    add-i
-    loop-less
-    loop-again
-    same-length
-    returns)
+    (tie.spec Inv-loop μ-loop loop-holds shared-slice-read-put-byte (λ c κs. search needs) add-i loop-less loop-again
+    same-length returns)

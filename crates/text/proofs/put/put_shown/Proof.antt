@@ -24,13 +24,5 @@ returns-2 c =
 pub put-shown-spec : {M : Type 1} → statement M
 put-shown-spec =
     tie.close
-    (tie.spec
-    (λ c κs. search needs)
-    whole-requires
-    (λ c κs. search needs)
-    (λ c. search needs)
-    returns
-    (λ c κs. search needs)
-    (λ c κs. search needs)
-    (λ c. search needs)
-    returns-2)
+    (tie.spec (λ c κs. search needs) whole-requires (λ c κs. search needs) (λ c. search needs) returns (λ c κs. search needs)
+    (λ c κs. search needs) (λ c. search needs) returns-2)
