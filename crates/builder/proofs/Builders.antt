@@ -1,6 +1,6 @@
 -- What the checks of the builder's calls give. Assumes nothing.
 use mathlib.Core.Path.{_≡_, refl, sym, _∙_}
-use mathlib.Core.Bool.{true, false, not, _&&_, and-true, and-false}
+use mathlib.Core.Bool.{true, false, not, and-false}
 use mathlib.Core.List.{List}
 use Prim.Native.Nat.{ℕ, zero, suc, _*_, _≤_, _<_}
 use native.Mathlib.Nat.{suc-mul, zero-mul, mul-le-mul}
@@ -18,7 +18,7 @@ use Rattle.grid.specs.declared.Grid.{Grid}
 use Rattle.grid.specs.Grid.{limit, validGrid}
 use Rattle.table.specs.Place.{tableLength}
 use Rattle.decimation.specs.declared.Decimation.{Decimation}
-use Rattle.decimation.specs.Decimation.{coarseGrid, factorRefusal, decimationOf, validDecimation}
+use Rattle.decimation.specs.Decimation.{factorRefusal, decimationOf, validDecimation}
 use Rattle.decimation.proofs.Factors.{Framed, framed, decimation-valid}
 use Rattle.builder.specs.declared.Builder.{Builder}
 use Rattle.builder.specs.declared.Lengths.{Lengths}

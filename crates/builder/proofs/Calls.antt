@@ -2,7 +2,7 @@
 use mathlib.Core.Path.{_≡_, refl, sym, ap, _∙_}
 use mathlib.Core.Bool.{Bool, true, false, not}
 use mathlib.Core.List.{List}
-use Prim.Native.Nat.{ℕ, zero, suc, _+_, _/_, _%_, _≤_, _<_}
+use Prim.Native.Nat.{ℕ, zero, suc, _+_, _/_, _%_, _<_}
 use native.Mathlib.Numerals.{add-one}
 use native.Mathlib.Omega.{arith}
 use borrow.Author.Tests.{eq-eqb, ne-eqb}
@@ -19,7 +19,7 @@ use Rattle.grid.specs.declared.Grid.{Grid}
 use Rattle.grid.specs.Grid.{validGrid}
 use Rattle.table.specs.Place.{laidRow}
 use Rattle.decimation.specs.declared.Decimation.{Decimation}
-use Rattle.decimation.specs.Decimation.{factorRefusal, decimationOf, decimationNew}
+use Rattle.decimation.specs.Decimation.{factorRefusal, decimationNew}
 use Rattle.decimation.proofs.Factors.{decimation-made}
 use Rattle.sweep.specs.Sweep.{accAfter, corrAfter}
 use Rattle.builder.specs.declared.Builder.{Builder}
@@ -116,9 +116,9 @@ pub taken-in : (b : Builder) (row row' : List ℕ) (m : Buffers) → rowRefusal 
     → more ≡ rowTallies (b .nodata) row
     → row' ≡ sanitisedRow (b .nodata) row
     → t ≡ heldTallies (plusTallies (b .tallies) more)
-    → digest ≡ digestOf (b .digest) row'
-    → acc ≡ accAfter row' (m .acc) (m .corr)
-    → corr ≡ corrAfter row' (m .acc) (m .corr)
+    → digest ≡ digestOf (b .digest) (sanitisedRow (b .nodata) row)
+    → acc ≡ accAfter (sanitisedRow (b .nodata) row) (m .acc) (m .corr)
+    → corr ≡ corrAfter (sanitisedRow (b .nodata) row) (m .acc) (m .corr)
     → coarse ≡ coarseAfter b acc (m .coarse)
     → table ≡ tableAfter b acc (m .coarse) (m .table)
     → (_≡_ {A = Builder} (record { decimation = b .decimation; nodata = b .nodata; rows = b .rows + 1; digest = digest; tallies = t }) (builderAfter b row))

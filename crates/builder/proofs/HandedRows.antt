@@ -1,5 +1,5 @@
 -- The loops of a row handed on, and its cells. Assumes nothing.
-use mathlib.Core.Path.{_≡_, refl, sym, ap, _∙_}
+use mathlib.Core.Path.{_≡_, refl, ap, _∙_}
 use mathlib.Core.Bool.{Bool, true, false, cond}
 use mathlib.Core.List.{List, _∷_, _++_, append-nil}
 use Prim.Native.Nat.{ℕ, zero, suc, _+_, _-_, _*_, _<_, _≤_}
@@ -8,7 +8,7 @@ use native.Mathlib.Numerals.{add-one}
 use native.Mathlib.Omega.{arith}
 use borrow.Author.Tests.{eqb-true}
 use lib.Dec.{eqb}
-use lib.ListN.{length, take, drop, set, getD, replicate, length-take, length-set, length-replicate, drop-of-length-le}
+use lib.ListN.{length, take, drop, set, getD, replicate, length-set, length-replicate, drop-of-length-le}
 use lib.Seq.{drop-cons, take-suc-set, append-snoc, take-all, take-suc, set-at, length-take-le, getD-take}
 use lib.Ieee.{Float, nan}
 use Rattle.float.specs.Float.{f64zero}
@@ -36,10 +36,10 @@ unfolding clearedTo
 clear-turn l i h = rw (add-one, drop-cons l i nan h, set-at _ _ _ _ i (length-replicate i f64zero)) (replicate-snoc i f64zero _)
 
 -- at factor 1 what is handed on of n zeros is so many zeros
-take-zeros : (n m : ℕ) (v : Float) → n ≤ m → take n (replicate m v) ≡ replicate n v
+pub take-zeros : {A : Type 0} (n m : ℕ) (v : A) → n ≤ m → take n (replicate m v) ≡ replicate n v
 take-zeros zero m v h = refl
 take-zeros (suc n) zero v h = absurd (omega arith)
-take-zeros (suc n) (suc m) v h = ap (λ (r : List Float). v ∷ r) (take-zeros n m v (omega arith))
+take-zeros {A} (suc n) (suc m) v h = ap (λ (r : List A). v ∷ r) (take-zeros n m v (omega arith))
 
 pub zeros-handed-on : (n m : ℕ) (coarse : List Float) → n ≤ m → handedOn (replicate m f64zero) coarse 1 n ≡ replicate n f64zero
 unfolding handedOn

@@ -1,5 +1,5 @@
 -- What a start and a row call keep: the buffers' lengths, and room for the row handed on. Assumes nothing.
-use mathlib.Core.Path.{_≡_, refl, ap, _∙_}
+use mathlib.Core.Path.{_≡_, refl, _∙_}
 use mathlib.Core.Bool.{Bool, true, false, cond}
 use mathlib.Core.List.{List}
 use Prim.Native.Nat.{ℕ, suc, _+_, _*_, _/_, _≤_, _<_}
@@ -8,10 +8,8 @@ use native.Mathlib.Omega.{arith}
 use lib.ListN.{length, replicate, length-replicate, length-map}
 use lib.Ieee.{Float}
 use Rattle.float.specs.Float.{f64zero}
-use Rattle.raster.specs.declared.CellTallies.{CellTallies}
-use Rattle.raster.specs.Raster.{cellsOf, sanitised, sanitisedRow, rowTallies, plusTallies, heldTallies}
+use Rattle.raster.specs.Raster.{sanitised, sanitisedRow, rowTallies, plusTallies, heldTallies}
 use Rattle.raster.proofs.Tallies.{cells-of-row, cells-of-sum, tallies-held}
-use Rattle.grid.specs.declared.Grid.{Grid}
 use Rattle.grid.specs.Grid.{limit}
 use Rattle.table.specs.Place.{laidRow}
 use Rattle.table.proofs.Places.{length-laid}
@@ -21,7 +19,7 @@ use Rattle.sweep.specs.Sweep.{accAfter}
 use Rattle.sweep.proofs.Sweeps.{length-accAfter, length-corrAfter}
 use Rattle.builder.specs.declared.Builder.{Builder}
 use Rattle.builder.specs.Rows.{coarseFilled, handedOn}
-use Rattle.builder.specs.Build.{Buffers, lengthsOf, validBuilder, clearedBuffers, coarseAfter, tableAfter, buffersAfter, completes, completedRow}
+use Rattle.builder.specs.Build.{Buffers, lengthsOf, clearedBuffers, coarseAfter, tableAfter, buffersAfter, completes, completedRow}
 use Rattle.builder.specs.private.Room.{Sized, Room, RowRoom}
 use Rattle.builder.proofs.HandedRows.{length-coarseFilled, length-handedOn}
 use Rattle.builder.proofs.Builders.{Taken, standing, builder-framed, few-cells}

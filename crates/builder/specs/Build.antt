@@ -9,7 +9,6 @@ use Rattle.refusal.specs.Refusal.{Outcome, answered, refused, first, passed, ou
 use Rattle.refusal.specs.Refusal.{notItsMakers, wrongBufferLength, rowAfterLast, wrongRowLength, finishBeforeLast}
 use Rattle.float.specs.Float.{f64zero}
 use Rattle.digest.specs.Digest.{firstDigest, digestOf}
-use Rattle.raster.specs.declared.CellTallies.{CellTallies}
 use Rattle.raster.specs.Raster.{sanitisedRow, rowTallies, plusTallies, noTallies, cellsOf}
 use Rattle.grid.specs.declared.Grid.{Grid}
 use Rattle.grid.specs.Grid.{validGrid}

@@ -112,14 +112,14 @@ impl Builder {
     {
         let decimation = self.decimation;
         let before = self.tallies;
-        let tallies = before.plus(raster::sanitise_row(row, self.nodata));
-        let digest = sweep::sweep_row(acc, corr, row, self.digest);
+        let swept = sweep::sweep_row(acc, corr, row, self.nodata, self.digest);
+        let tallies = before.plus(swept.tallies);
         self.hand_on(acc, coarse, table);
         Builder {
             decimation,
             nodata: self.nodata,
             rows: self.rows + 1,
-            digest,
+            digest: swept.digest,
             tallies,
         }
     }

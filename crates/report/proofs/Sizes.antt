@@ -1,9 +1,9 @@
 -- What an accepted card's decimation is, and how much of each buffer it takes: its source table has at most 8,192 cells. Assumes nothing.
-use mathlib.Core.Path.{_≡_, refl, sym, subst, ap}
+use mathlib.Core.Path.{_≡_, sym, subst}
 use mathlib.Core.Bool.{true}
-use mathlib.Core.List.{List, _∷_}
-use Prim.Native.Nat.{ℕ, zero, suc, _+_, _*_, _≤_, _<_, min}
-use native.Mathlib.Nat.{mul-le-mul, le-refl}
+use mathlib.Core.List.{List}
+use Prim.Native.Nat.{ℕ, _+_, _*_, _≤_, _<_, min}
+use native.Mathlib.Nat.{le-refl}
 use native.Mathlib.Numerals.{add-one}
 use native.Mathlib.Omega.{arith}
 use lib.ListN.{length, take, replicate, length-replicate}
@@ -13,26 +13,14 @@ use Rattle.float.specs.Float.{f64zero}
 use Rattle.grid.specs.Grid.{validGrid}
 use Rattle.grid.proofs.Valid.{grid-sized}
 use Rattle.table.specs.Place.{tableLength}
-use Rattle.table.proofs.Places.{most, length-of-rows, length-held, smaller-table, few-columns, few-lines}
+use Rattle.table.proofs.Places.{most, length-held, smaller-table, fewer-cells, few-columns, few-lines}
 use Rattle.decimation.specs.declared.Decimation.{Decimation}
 use Rattle.decimation.proofs.Factors.{Made, decimation-made, framed, at-most, coarse-valid}
 use Rattle.card.specs.declared.Header.{Header}
 use Rattle.card.specs.private.Accepted.{Accepted}
 use Rattle.builder.specs.Build.{buffers}
+use Rattle.builder.proofs.HandedRows.{take-zeros}
 use Rattle.report.specs.Printed.{emptyBuffers}
-
--- a grid has fewer cells than its table (belongs to table/proofs/Places)
-few-cells : (w h : ℕ) → h * w ≤ tableLength w h
-few-cells w h =
-    let a : h ≤ suc h = omega arith in
-    let b : w ≤ suc w = omega arith in
-    rw length-of-rows (mul-le-mul a b)
-
--- the front of zeros is zeros (builder/proofs/HandedRows has it, but not `pub`)
-take-zeros : {A : Type 0} (n m : ℕ) (v : A) → n ≤ m → take n (replicate m v) ≡ replicate n v
-take-zeros zero m v h = refl
-take-zeros (suc n) zero v h = absurd (omega arith)
-take-zeros {A} (suc n) (suc m) v h = ap (λ (r : List A). v ∷ r) (take-zeros n m v (omega arith))
 
 -- ---- the front of a buffer
 
@@ -86,7 +74,7 @@ module _ {card : List ℕ} {h : Header} (a : Accepted card h) where
         row = omega (arith, width);
         width = omega (arith, width);
         height = height;
-        cells = omega (arith, few-cells (d .source .width) (d .source .height), a .small);
+        cells = omega (arith, fewer-cells (d .source .width) (d .source .height), a .small);
         columns = omega (arith, narrower, width);
         lines = omega (arith, lower, height);
         table = held;

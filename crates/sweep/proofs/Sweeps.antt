@@ -5,12 +5,12 @@ use Prim.Native.Nat.{ℕ, suc, _+_, _-_, _<_, _≤_, min}
 use native.Mathlib.Nat.{le-refl}
 use native.Mathlib.Numerals.{add-one}
 use native.Mathlib.Omega.{arith}
-use lib.ListN.{length, take, drop, set, getD, length-append, length-drop, take-append-drop, drop-of-length-le}
+use lib.ListN.{length, take, drop, set, getD, length-append, length-drop, length-map, take-append-drop, drop-of-length-le}
 use lib.Seq.{drop-cons, take-suc-set, drop-set-lt, append-snoc, take-all}
 use lib.Ieee.{Float, nan}
 use Rattle.float.specs.Float.{f64zero}
 use Rattle.digest.specs.Digest.{mixed, digestOf}
-use Rattle.raster.specs.Raster.{cellValue}
+use Rattle.raster.specs.Raster.{cellValue, sanitised, sanitisedRow}
 use Rattle.sweep.specs.declared.Carry.{Carry}
 use Rattle.sweep.specs.declared.Column.{Column}
 use Rattle.sweep.specs.Sweep.{sweptAcc, sweptCorr, accAfter, corrAfter}
@@ -18,22 +18,23 @@ use Rattle.sweep.specs.private.Cell.{swept}
 
 -- ---- a turn of the sweep
 
--- the columns below i as they are, and the rest as the sweep from i on leaves it
-abbrev pub fromAcc : Carry → List ℕ → List Float → List Float → ℕ → List Float
-fromAcc k row acc corr i = take i acc ++ sweptAcc (k .prefix) (k .corr) (drop i row) (drop i acc) (drop i corr)
+-- the columns below i as they are, and the rest as the sweep of the cells from i on, sanitised, leaves it
+abbrev pub fromAcc : ℕ → Carry → List ℕ → List Float → List Float → ℕ → List Float
+fromAcc nodata k row acc corr i = take i acc ++ sweptAcc (k .prefix) (k .corr) (sanitisedRow nodata (drop i row)) (drop i acc) (drop i corr)
 
-abbrev pub fromCorr : Carry → List ℕ → List Float → List Float → ℕ → List Float
-fromCorr k row acc corr i = take i corr ++ sweptCorr (k .prefix) (k .corr) (drop i row) (drop i acc) (drop i corr)
+abbrev pub fromCorr : ℕ → Carry → List ℕ → List Float → List Float → ℕ → List Float
+fromCorr nodata k row acc corr i = take i corr ++ sweptCorr (k .prefix) (k .corr) (sanitisedRow nodata (drop i row)) (drop i acc) (drop i corr)
 
-module _ (k : Carry) (row : List ℕ) (acc corr : List Float) (i : ℕ) (r : i < length row) (a : i < length acc) (c : i < length corr) (s : Column)
-    (e : s ≡ swept k (cellValue (getD row i 0)) (getD acc i nan) (getD corr i nan)) where
-  pub turn-acc : fromAcc (s .carry) row (set acc i (s .acc)) (set corr i (s .corr)) (i + 1) ≡ fromAcc k row acc corr i
+module _ (nodata : ℕ) (k : Carry) (row : List ℕ) (acc corr : List Float) (i : ℕ) (r : i < length row) (a : i < length acc) (c : i < length corr)
+    (x : ℕ) (s : Column) (e : s ≡ swept k (cellValue (sanitised nodata (getD row i 0))) (getD acc i nan) (getD corr i nan)) where
+  pub turn-acc : fromAcc nodata (s .carry) (set row i x) (set acc i (s .acc)) (set corr i (s .corr)) (i + 1) ≡ fromAcc nodata k row acc corr i
   unfolding swept
   turn-acc =
       rw (
         e,
         add-one,
         take-suc-set acc i,
+        drop-set-lt (suc i) row i _ (le-refl (suc i)),
         drop-set-lt (suc i) acc i _ (le-refl (suc i)),
         drop-set-lt (suc i) corr i _ (le-refl (suc i)),
         append-snoc,
@@ -42,13 +43,14 @@ module _ (k : Carry) (row : List ℕ) (acc corr : List Float) (i : ℕ) (r : i <
         drop-cons corr i nan c,
       )
 
-  pub turn-corr : fromCorr (s .carry) row (set acc i (s .acc)) (set corr i (s .corr)) (i + 1) ≡ fromCorr k row acc corr i
+  pub turn-corr : fromCorr nodata (s .carry) (set row i x) (set acc i (s .acc)) (set corr i (s .corr)) (i + 1) ≡ fromCorr nodata k row acc corr i
   unfolding swept
   turn-corr =
       rw (
         e,
         add-one,
         take-suc-set corr i,
+        drop-set-lt (suc i) row i _ (le-refl (suc i)),
         drop-set-lt (suc i) acc i _ (le-refl (suc i)),
         drop-set-lt (suc i) corr i _ (le-refl (suc i)),
         append-snoc,
@@ -57,8 +59,9 @@ module _ (k : Carry) (row : List ℕ) (acc corr : List Float) (i : ℕ) (r : i <
         drop-cons corr i nan c,
       )
 
-pub turn-digest : (d : ℕ) (row : List ℕ) (i : ℕ) → i < length row → digestOf (mixed d (getD row i 0)) (drop (i + 1) row) ≡ digestOf d (drop i row)
-turn-digest d row i r = rw (add-one, drop-cons row i 0 r)
+pub turn-digest : (nodata d : ℕ) (row : List ℕ) (i x : ℕ) → i < length row → x ≡ sanitised nodata (getD row i 0)
+    → digestOf (mixed d x) (sanitisedRow nodata (drop (i + 1) (set row i x))) ≡ digestOf d (sanitisedRow nodata (drop i row))
+turn-digest nodata d row i x r e = rw (add-one, drop-set-lt (suc i) row i x (le-refl (suc i)), drop-cons row i 0 r, e)
 
 -- a sweep of no cells, or of no columns, leaves everything
 module _ (prefix rest : Float) where
@@ -78,10 +81,11 @@ min-sub : (a b i : ℕ) → min (a - i) (b - i) ≡ min a b - i
 min-sub a b i = omega arith
 
 -- the sweep ends where the row or the columns do
-module _ (k : Carry) (row : List ℕ) (acc corr : List Float) (i : ℕ) (r : min (length row) (min (length acc) (length corr)) ≤ i) where
-  none-left : min (length (drop i row)) (min (length (drop i acc)) (length (drop i corr))) ≡ 0
+module _ (nodata : ℕ) (k : Carry) (row : List ℕ) (acc corr : List Float) (i : ℕ) (r : min (length row) (min (length acc) (length corr)) ≤ i) where
+  none-left : min (length (sanitisedRow nodata (drop i row))) (min (length (drop i acc)) (length (drop i corr))) ≡ 0
   none-left =
       rw (
+        length-map (drop i row) (sanitised nodata),
         length-drop i row,
         length-drop i acc,
         length-drop i corr,
@@ -89,11 +93,11 @@ module _ (k : Carry) (row : List ℕ) (acc corr : List Float) (i : ℕ) (r : min
         min-sub (length row) (min (length acc) (length corr)) i,
       ) (omega arith)
 
-  pub end-acc : fromAcc k row acc corr i ≡ acc
-  end-acc = rw (none-acc (k .prefix) (k .corr) (drop i row) (drop i acc) (drop i corr) none-left, take-append-drop)
+  pub end-acc : fromAcc nodata k row acc corr i ≡ acc
+  end-acc = rw (none-acc (k .prefix) (k .corr) (sanitisedRow nodata (drop i row)) (drop i acc) (drop i corr) none-left, take-append-drop)
 
-  pub end-corr : fromCorr k row acc corr i ≡ corr
-  end-corr = rw (none-corr (k .prefix) (k .corr) (drop i row) (drop i acc) (drop i corr) none-left, take-append-drop)
+  pub end-corr : fromCorr nodata k row acc corr i ≡ corr
+  end-corr = rw (none-corr (k .prefix) (k .corr) (sanitisedRow nodata (drop i row)) (drop i acc) (drop i corr) none-left, take-append-drop)
 
 -- with no column a row changes no sum
 module _ (row : List ℕ) (acc corr : List Float) (e : min (length acc) (length corr) ≡ 0) where
@@ -110,16 +114,14 @@ module _ (row : List ℕ) (acc corr : List Float) (e : min (length acc) (length 
 
 -- ---- a slice lent from an element on
 
-pub rest-all : (i : ℕ) (l : List ℕ) → take (length l - i) (drop i l) ≡ drop i l
-rest-all i l = take-all (length l - i) (drop i l) (omega (arith, length-drop i l))
+module _ {A : Type 0} (i : ℕ) (l : List A) where
+  pub rest-all : take (length l - i) (drop i l) ≡ drop i l
+  rest-all = take-all (length l - i) (drop i l) (omega (arith, length-drop i l))
 
-pub tail-all : (l : List Float) → take (length l - 1) (drop 1 l) ≡ drop 1 l
-tail-all l = take-all (length l - 1) (drop 1 l) (omega (arith, length-drop 1 l))
-
-pub tail-back : (l e : List Float) → take 1 l ++ (e ++ drop (length l - 1) (drop 1 l)) ≡ take 1 l ++ e
-tail-back l e =
-    let h : length (drop 1 l) ≤ length l - 1 = omega (arith, length-drop 1 l) in
-    rw (drop-of-length-le (drop 1 l) h, append-nil)
+  pub rest-back : (e : List A) → take i l ++ (e ++ drop (length l - i) (drop i l)) ≡ take i l ++ e
+  rest-back e =
+      let h : length (drop i l) ≤ length l - i = omega (arith, length-drop i l) in
+      rw (drop-of-length-le (drop i l) h, append-nil)
 
 -- ---- lengths
 

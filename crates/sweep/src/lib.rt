@@ -3,9 +3,17 @@ ghost use mathlib.Core.Path.{_≡_};
 ghost use Prim.Native.Nat.{min};
 ghost use Rattle.digest.specs.Digest.{digestOf};
 ghost use Rattle.float.specs.Float.{f64zero};
+ghost use Rattle.raster.specs.Raster.{sanitisedRow, rowTallies};
 ghost use Rattle.sweep.specs.Sweep.{takenIn, sweptAcc, sweptCorr, accAfter, corrAfter};
 ghost use Rattle.sweep.specs.private.Cell.{swept};
 use float::TwoSum;
+use raster::CellTallies;
+
+// What a row gives: the digest with its cells, and its tallies.
+pub struct Swept {
+    pub digest: u64,
+    pub tallies: CellTallies,
+}
 
 // A row's running prefix with its correction.
 struct Carry {
@@ -51,40 +59,69 @@ fn shorter(a: usize, b: usize) -> usize
     if a <= b { a } else { b }
 }
 
-// The cells go into the columns and the digest in one pass: the sums wait for each other, and the digest's products run
-// meanwhile. A cell that has no column goes into the digest alone.
-fn sweep(acc: &mut [f64], corr: &mut [f64], row: &[u32], digest: u64) -> u64
-    ensures { λ r. ⌜ (r ≡ digestOf digest (now (row .entry)))
-        × (now (acc .exit) ≡ sweptAcc f64zero f64zero (now (row .entry)) (now (acc .entry)) (now (corr .entry)))
-        × (now (corr .exit) ≡ sweptCorr f64zero f64zero (now (row .entry)) (now (acc .entry)) (now (corr .entry))) ⌝ }
+// Cells that have no column are sanitised, tallied and go into the digest.
+fn pass_by(row: &mut [u32], nodata: u32, digest: u64) -> Swept
+    ensures { λ r. ⌜ (r .digest ≡ digestOf digest (sanitisedRow nodata (now (row .entry)))) × (r .tallies ≡ rowTallies nodata (now (row .entry)))
+        × (now (row .exit) ≡ sanitisedRow nodata (now (row .entry))) ⌝ }
+{
+    let tallies = raster::sanitise_row(row, nodata);
+    Swept {
+        digest: digest::digest_row(digest, row),
+        tallies,
+    }
+}
+
+// A cell is sanitised, tallied, swept and goes into the digest in one pass: the sums wait for each other, and all the
+// rest runs meanwhile.
+fn sweep(acc: &mut [f64], corr: &mut [f64], row: &mut [u32], nodata: u32, digest: u64) -> Swept
+    ensures { λ r. ⌜ (r .digest ≡ digestOf digest (sanitisedRow nodata (now (row .entry)))) × (r .tallies ≡ rowTallies nodata (now (row .entry)))
+        × (now (acc .exit) ≡ sweptAcc f64zero f64zero (sanitisedRow nodata (now (row .entry))) (now (acc .entry)) (now (corr .entry)))
+        × (now (corr .exit) ≡ sweptCorr f64zero f64zero (sanitisedRow nodata (now (row .entry))) (now (acc .entry)) (now (corr .entry)))
+        × (now (row .exit) ≡ sanitisedRow nodata (now (row .entry))) ⌝ }
 {
     let mut k = Carry {
         prefix: 0.0,
         corr: 0.0,
     };
     let n = shorter(row.len(), shorter(acc.len(), corr.len()));
+    let mut t = CellTallies::none();
     let mut d = digest;
     let mut i = 0;
     while i < n {
         let bits = row[i];
-        let s = sweep_cell(k, float::widen(bits), acc[i], corr[i]);
+        let kind = raster::classify(bits, nodata);
+        let cell = raster::keep(kind, bits);
+        let s = sweep_cell(k, float::widen(cell), acc[i], corr[i]);
+        row[i] = cell;
         acc[i] = s.acc;
         corr[i] = s.corr;
         k = s.carry;
-        d = digest::mix(d, bits);
+        t = t.with(kind);
+        d = digest::mix(d, cell);
         i += 1;
     }
-    digest::digest_row(d, &row[i..])
+    let rest = pass_by(&mut row[i..], nodata, d);
+    Swept {
+        digest: rest.digest,
+        tallies: t.plus(rest.tallies),
+    }
 }
 
-// A row goes into accumulator and corrections, whose first cell belongs to no column, and into the digest.
-pub fn sweep_row(acc: &mut [f64], corr: &mut [f64], row: &[u32], digest: u64) -> u64
-    ensures { λ r. ⌜ (r ≡ digestOf digest (now (row .entry)))
-        × (now (acc .exit) ≡ accAfter (now (row .entry)) (now (acc .entry)) (now (corr .entry)))
-        × (now (corr .exit) ≡ corrAfter (now (row .entry)) (now (acc .entry)) (now (corr .entry))) ⌝ }
+// A row is sanitised in place and goes into accumulator and corrections, whose first cell belongs to no column.
+pub fn sweep_row(
+    acc: &mut [f64],
+    corr: &mut [f64],
+    row: &mut [u32],
+    nodata: u32,
+    digest: u64,
+) -> Swept
+    ensures { λ r. ⌜ (r .digest ≡ digestOf digest (sanitisedRow nodata (now (row .entry)))) × (r .tallies ≡ rowTallies nodata (now (row .entry)))
+        × (now (acc .exit) ≡ accAfter (sanitisedRow nodata (now (row .entry))) (now (acc .entry)) (now (corr .entry)))
+        × (now (corr .exit) ≡ corrAfter (sanitisedRow nodata (now (row .entry))) (now (acc .entry)) (now (corr .entry)))
+        × (now (row .exit) ≡ sanitisedRow nodata (now (row .entry))) ⌝ }
 {
     if shorter(acc.len(), corr.len()) == 0 {
-        return digest::digest_row(digest, row);
+        return pass_by(row, nodata, digest);
     }
-    sweep(&mut acc[1..], &mut corr[1..], row, digest)
+    sweep(&mut acc[1..], &mut corr[1..], row, nodata, digest)
 }

@@ -1,6 +1,5 @@
 -- One cell of a sweep, by the records of the code.
 use lib.Ieee.{Float}
-use Rattle.float.specs.Float.{f64zero}
 use Rattle.sweep.specs.Sweep.{takenIn}
 use Rattle.sweep.specs.declared.Carry.{Carry}
 use Rattle.sweep.specs.declared.Column.{Column}

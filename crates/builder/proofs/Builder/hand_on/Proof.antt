@@ -1,7 +1,6 @@
 -- `builder::Builder::hand_on` meets its contract.
 -- Assumes nothing.
 use native.Mathlib.Numerals.{add-one}
-use native.Mathlib.Omega.{arith}
 use Rattle.decimation.proofs.Factors.{framed}
 use Rattle.builder.proofs.Calls.{handed-on, not-handed-on}
 use Rattle.builder.proofs.Kept.{completed-inside}

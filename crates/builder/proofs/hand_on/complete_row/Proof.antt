@@ -3,7 +3,6 @@
 use mathlib.Core.Path.{_≡_, ap, _∙_}
 use Prim.Native.Nat.{suc}
 use native.Mathlib.Numerals.{add-one}
-use native.Mathlib.Omega.{arith}
 use lib.ListN.{length}
 use Rattle.builder.proofs.HandedRows.{length-coarseFilled, length-handedOn}
 use Rattle.builder.proofs.Kept.{samples, acc-wide, coarse-wide, row-room}

@@ -1,0 +1,57 @@
+-- `raster::CellTallies::with` meets its contract.
+-- Assumes nothing.
+use native.Mathlib.Omega.{arith}
+use borrow.Author.Needs.{needs}
+use Rattle.raster.proofs.Tallies.{held-same}
+use Rattle.raster.proofs.CellTallies.with.Statement.{statement}
+use Rattle.raster.proofs.CellTallies.with.Tie as tie
+
+returns : tie.Need-returns
+returns c =
+    let t = c .before .before .before .args .self in
+    rw (
+      c .sum .ensures,
+      c .before .enum-told .given .1,
+      held-same (t .negative) (omega arith),
+      held-same (t .zero) (omega arith),
+      held-same (t .populated) (omega arith),
+    )
+
+returns-2 : tie.Need-returns-2
+returns-2 c =
+    let t = c .before .before .before .args .self in
+    rw (
+      c .sum2 .ensures,
+      c .before .enum-told2 .given .1,
+      held-same (t .nodata) (omega arith),
+      held-same (t .zero) (omega arith),
+      held-same (t .populated) (omega arith),
+    )
+
+returns-3 : tie.Need-returns-3
+returns-3 c =
+    let t = c .before .before .before .args .self in
+    rw (
+      c .sum3 .ensures,
+      c .before .enum-told3 .given .1,
+      held-same (t .nodata) (omega arith),
+      held-same (t .negative) (omega arith),
+      held-same (t .populated) (omega arith),
+    )
+
+returns-4 : tie.Need-returns-4
+returns-4 c =
+    let t = c .before .before .before .args .self in
+    rw (
+      c .sum4 .ensures,
+      c .before .enum-told4 .given .1,
+      held-same (t .nodata) (omega arith),
+      held-same (t .negative) (omega arith),
+      held-same (t .zero) (omega arith),
+    )
+
+pub with-spec : {M : Type 1} → statement M
+with-spec =
+    tie.close
+    (tie.spec (λ c. search needs) (λ c κs. search needs) (λ c. search needs) (λ c κs. search needs) (λ c. search needs) (λ c κs. search needs)
+    (λ c. search needs) (λ c κs. search needs) returns returns-2 returns-3 returns-4)
