@@ -52,7 +52,7 @@ pub fn rectangles(call: &[u64], out: &mut Words) -> usize {
 }
 
 // The people of each question of a list: of rectangles or of circles, which have so many words.
-pub fn ask_all(
+pub(crate) fn ask_all(
     call: &[u64],
     questions: &[u64],
     size: usize,
