@@ -55,7 +55,7 @@ module _ {card : List ℕ} {h : Header} (a : Accepted card h) where
   pub made : Made (d .source) (d .factor) d
   made = decimation-made (d .source) (d .factor) d (a .made)
 
-  -- the coarse grid is one that its maker could give (belongs to `Made` of decimation/proofs/Factors)
+  -- the coarse grid is one that its maker could give
   pub grid-valid : validGrid (d .grid) ≡ true
   grid-valid =
       subst (λ (x : Decimation). validGrid (x .grid) ≡ true) (sym (made .is)) (coarse-valid (d .source) (d .factor) (made .source) (made .factored))
