@@ -5,7 +5,7 @@ use lib.Ieee.{sub, mul, le, ofInt, ofBits, toBits}
 use Rattle.float.specs.Float.{larger}
 use Rattle.float.specs.TwoSum.{twoSum}
 use Rattle.raster.specs.Raster.{kindOf}
-use Rattle.geodesy.specs.Radius.{radiusRefusal, validRadius, widened, widenedBy}
+use Rattle.radius.specs.Radius.{radiusRefusal, validRadius, widened, widenedBy}
 use Rattle.geodesy.specs.Sphere.{wrapLon}
 use Rattle.grid.specs.Grid.{gridRefusal, gridNew, validGrid, sameGrid}
 use Rattle.grid.specs.Lookup.{colAlong, colAlongCall}

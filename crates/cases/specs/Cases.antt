@@ -12,7 +12,7 @@ use Rattle.raster.specs.declared.CellKind.{CellKind}
 use Rattle.raster.specs.declared.CellKind.the-variants.{Nodata, Negative, Zero, Populated}
 use Rattle.raster.specs.Raster.{kindOf}
 use Rattle.raster.specs.Example.{exampleMark, firstRow, secondRow}
-use Rattle.geodesy.specs.Radius.{widenedBy}
+use Rattle.radius.specs.Radius.{widenedBy}
 use Rattle.grid.specs.declared.Grid.{Grid}
 use Rattle.grid.specs.Grid.{f64p90, tolerance, gridNew}
 use Rattle.grid.specs.Example.{exampleGrid}

@@ -64,7 +64,7 @@ fn circle_sum(table: Table, cells: &[f64], k: Kernel, half_widths: &[u32], centr
     requires { ⌜ CircleReady (table .grid) (length (now cells)) k (now «half_widths») (centre .0) ⌝ }
     ensures { λ r. ⌜ r ≡ circleSum (table .grid .width) (now (cells .entry)) k (now («half_widths» .entry)) (centre .0) ⌝ }
 {
-    let closing = kernel::closing(table.grid.width);
+    let closing = cap::closing(table.grid.width);
     let north = k.north.0;
     let count = k.count as usize;
     let mut people = 0.0;

@@ -13,7 +13,7 @@ use Rattle.refusal.specs.Refusal.{answered, refused, outcome, passed, radiusNot
 use Rattle.refusal.proofs.Chains.{first-passed}
 use Rattle.float.specs.Float.{f64zero}
 use Rattle.exact.specs.Units.{f64units}
-use Rattle.geodesy.specs.declared.RadiusKm.{RadiusKm}
+use Rattle.radius.specs.declared.RadiusKm.{RadiusKm}
 use Rattle.grid.specs.declared.Grid.{Grid}
 use Rattle.grid.specs.declared.Row.{Row}
 use Rattle.grid.specs.Lookup.{closes}

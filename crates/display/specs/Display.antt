@@ -5,7 +5,7 @@ use mathlib.Core.List.{List, [], _∷_, _++_}
 use lib.ListN.{replicate}
 use Rattle.grid.specs.declared.Grid.{Grid}
 use Rattle.grid.specs.declared.Row.{Row}
-use Rattle.geodesy.specs.declared.RadiusKm.{RadiusKm}
+use Rattle.radius.specs.declared.RadiusKm.{RadiusKm}
 use Rattle.kernel.specs.Kernel.{northRow, rowCount, halfWidths}
 use Rattle.area.specs.Area.{inCircle}
 use Rattle.ledger.specs.Ledger.{Call, row, Ledger, opened, ledgerAfter, sumIn}

@@ -4,7 +4,7 @@ use lib.Ieee.{Float, binary64, add, neg, ofBits}
 use Rattle.refusal.specs.Refusal.{Outcome, answered, refused}
 use Rattle.float.specs.Constants.{f64one, f64p90, f64p180}
 use Rattle.float.specs.TwoSum.{twoSum}
-use Rattle.geodesy.specs.declared.RadiusKm.{RadiusKm}
+use Rattle.radius.specs.declared.RadiusKm.{RadiusKm}
 use Rattle.raster.specs.Raster.{noTallies}
 use Rattle.grid.specs.declared.Grid.{Grid}
 use Rattle.grid.specs.declared.Row.{Row}

@@ -22,7 +22,6 @@ mod numbers;
 mod records;
 
 use geodesy::LatLon;
-use geodesy::RadiusKm;
 use grid::Col;
 use grid::Row;
 use kernel::Kernel;
@@ -30,6 +29,7 @@ use numbers::digest_or_refusal;
 use numbers::km_or_minus_one;
 use numbers::north_or_refusal;
 use numbers::people_or_minus_one;
+use radius::RadiusKm;
 use records::globe;
 use records::globe_kernel;
 use records::wide_builder;

@@ -3,10 +3,10 @@ ghost use mathlib.Core.Path.{_≡_};
 ghost use Rattle.exports.specs.Exports.{wideGrid, wideBuilder as wideBuilderOf, globe as globeGrid, globeKernel};
 use builder::Builder;
 use decimation::Decimation;
-use geodesy::RadiusKm;
 use grid::Grid;
 use grid::Row;
 use kernel::Kernel;
+use radius::RadiusKm;
 use raster::CellTallies;
 
 // 1,024 columns around the globe, and two rows.

@@ -14,13 +14,13 @@ use Rattle.refusal.specs.Refusal.{answered, passed, radiusNotFinite, radiusBelo
 use Rattle.refusal.proofs.Chains.{first-passed, answered-passed}
 use Rattle.refusal.proofs.Tests.{both}
 use Rattle.float.specs.Float.{f64zero}
-use Rattle.geodesy.specs.Radius.{radiusRefusal, validRadius}
-use Rattle.geodesy.specs.declared.RadiusKm.{RadiusKm}
+use Rattle.radius.specs.Radius.{radiusRefusal, validRadius}
+use Rattle.radius.specs.declared.RadiusKm.{RadiusKm}
 use Rattle.grid.specs.Grid.{validGrid}
 use Rattle.grid.specs.declared.Grid.{Grid}
 use Rattle.grid.specs.declared.Row.{Row}
 use Rattle.grid.proofs.Valid.{valid-by, valid-passed, valid-lon}
-use Rattle.kernel.specs.Cap.{closing}
+use Rattle.cap.specs.Cap.{closing}
 use Rattle.kernel.specs.Walks.{listed}
 use Rattle.kernel.specs.Kernel.{capAt, rowWidth, northRow, rowCount, kernelRefusal, kernelOf, ownWidths, halfWidths, kernelNew, allWithin, validKernel}
 use Rattle.kernel.specs.Kernel.{FromMaker}

@@ -1,2 +1,2 @@
 -- What private functions of `kernel` go by.
-pub mod Terms
+pub mod Rows

@@ -3,10 +3,10 @@ use crate::calls::list_end;
 use crate::table_calls::ask_all;
 use crate::table_calls::table_at;
 use crate::words::*;
-use geodesy::RadiusKm;
 use grid::Col;
 use grid::Row;
 use kernel::Kernel;
+use radius::RadiusKm;
 use table::PopulationAnswer;
 
 pub fn circles(call: &[u64], out: &mut Words) -> usize {

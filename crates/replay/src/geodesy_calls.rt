@@ -2,6 +2,8 @@
 use crate::answers::*;
 use crate::words::*;
 use geodesy::*;
+use radius::*;
+use stand_ins::*;
 
 pub fn answer(call: &[u64]) -> Answer {
     let x = number(call, 1);

@@ -1,9 +1,9 @@
 // Call 70: `kernel`.
 use crate::answers::*;
 use crate::words::*;
-use geodesy::RadiusKm;
 use grid::Row;
 use kernel::*;
+use radius::RadiusKm;
 
 pub fn kernel(call: &[u64], out: &mut Words) -> usize {
     let n = word(call, 9) as usize;

@@ -11,8 +11,8 @@ use lib.Ieee.Scale.{finite}
 use Rattle.refusal.specs.Refusal.{answered, refused, first, passed, outcome, columnOffGrid, radiusNotFinite, radiusBelowZero, rowOffGrid, columnsDontClose}
 use Rattle.refusal.proofs.Chains.{first-passed, answered-passed, refused-alike, never}
 use Rattle.float.specs.Float.{f64zero}
-use Rattle.geodesy.specs.declared.RadiusKm.{RadiusKm}
-use Rattle.geodesy.specs.Radius.{radiusRefusal, radiusNew, validRadius}
+use Rattle.radius.specs.declared.RadiusKm.{RadiusKm}
+use Rattle.radius.specs.Radius.{radiusRefusal, radiusNew, validRadius}
 use Rattle.grid.specs.declared.Grid.{Grid}
 use Rattle.grid.specs.declared.Row.{Row}
 use Rattle.grid.specs.declared.Col.{Col}

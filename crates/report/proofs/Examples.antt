@@ -7,7 +7,7 @@ use Rattle.float.specs.Float.{smaller, clamped, remEuclid}
 use Rattle.float.specs.TwoSum.{twoSum}
 use Rattle.sqrt.specs.Sqrt.{rootUnits}
 use Rattle.raster.specs.Raster.{kindOf}
-use Rattle.geodesy.specs.StandIns.{sineTerm, sinOf, cosineTerm, cosOf, arctanTerm, arctanSeries, halved, arctanOf, atan2Of, acosOf, toRadians, toDegrees}
+use Rattle.stand_ins.specs.StandIns.{sineTerm, sinOf, cosineTerm, cosOf, arctanTerm, arctanSeries, halved, arctanOf, atan2Of, acosOf, toRadians, toDegrees}
 use Rattle.geodesy.specs.Sphere.{wrapLon, haversine, angleOf, distanceRad, centralAngleRad}
 use Rattle.grid.specs.Grid.{gridRefusal, gridNew, validGrid}
 use Rattle.grid.specs.Lookup.{latAt, closes, colAlong}
@@ -17,9 +17,10 @@ use Rattle.builder.specs.Rows.{handedOn}
 use Rattle.decimation.specs.Decimation.{decimationNew}
 use Rattle.builder.specs.Build.{firstBuilder, clearedBuffers, builderAfter, coarseAfter, tableAfter, buffersAfter}
 use Rattle.table.specs.Rectangle.{rectangleSum}
-use Rattle.kernel.specs.Walks.{climbed, descended, walked, northOf, southOf}
-use Rattle.kernel.specs.Cap.{capOver, contained, reached, edgeRatio, edgeColumns, estimated, halfWidth}
-use Rattle.kernel.specs.Kernel.{capAt, rowReached, rowWidth, northRow, southRow, rowCount, kernelOf, ownWidths}
+use Rattle.cap.specs.Walks.{climbed, descended, walked}
+use Rattle.kernel.specs.Walks.{northOf, southOf}
+use Rattle.cap.specs.Cap.{contained, reached, edgeRatio, edgeColumns, estimated, halfWidth}
+use Rattle.kernel.specs.Kernel.{capOver, capAt, rowReached, rowWidth, northRow, southRow, rowCount, kernelOf, ownWidths}
 use Rattle.circle.specs.Circle.{spanAround, circleSum}
 use Rattle.text.specs.Text.{shown, refusedLine, rowsLine, cellsLine, totalLine, circleLine, circleRefusedLine}
 use Rattle.card.specs.Words.{u32At, u64At}

@@ -12,7 +12,7 @@ use Rattle.float.specs.Float.{f64zero}
 use Rattle.grid.specs.declared.Grid.{Grid}
 use Rattle.grid.specs.declared.Row.{Row}
 use Rattle.grid.specs.Lookup.{closes}
-use Rattle.geodesy.specs.declared.RadiusKm.{RadiusKm}
+use Rattle.radius.specs.declared.RadiusKm.{RadiusKm}
 use Rattle.decimation.specs.declared.Decimation.{Decimation}
 use Rattle.builder.specs.declared.Builder.{Builder}
 use Rattle.table.specs.Place.{tableLength}

@@ -5,13 +5,13 @@ ghost use Rattle.table.specs.Rectangle.{populationOutcome};
 ghost use Rattle.report.specs.Printed.{circleChecks, circleCount};
 ghost use Rattle.report.specs.private.Steps.{Countable};
 use card::CardCircle;
-use geodesy::RadiusAnswer;
-use geodesy::RadiusKm;
 use grid::Col;
 use grid::Grid;
 use grid::Row;
 use kernel::Kernel;
 use kernel::KernelAnswer;
+use radius::RadiusAnswer;
+use radius::RadiusKm;
 use table::PopulationAnswer;
 use table::Table;
 

@@ -7,7 +7,7 @@ use lib.ListN.{length}
 use lib.Ieee.{Float, binary64, sub, le}
 use Rattle.refusal.specs.Refusal.{Outcome, answered}
 use Rattle.refusal.proofs.Chains.{went-on}
-use Rattle.geodesy.specs.Sphere.{f64p360}
+use Rattle.float.specs.Constants.{f64p360}
 use Rattle.grid.specs.declared.Grid.{Grid}
 use Rattle.grid.specs.Grid.{tolerance}
 use Rattle.grid.specs.Lookup.{cellContaining}

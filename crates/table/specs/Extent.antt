@@ -4,7 +4,7 @@ use Prim.Native.Nat.{_-_}
 use lib.Ieee.{Float, binary64, sub, le}
 use Rattle.refusal.specs.Refusal.{Outcome, answered, refused, first, passed, outcome, andThen, notItsMakers}
 use Rattle.geodesy.specs.declared.LatLon.{LatLon}
-use Rattle.geodesy.specs.Sphere.{f64p360}
+use Rattle.float.specs.Constants.{f64p360}
 use Rattle.grid.specs.declared.Grid.{Grid}
 use Rattle.grid.specs.Grid.{validGrid, tolerance}
 use Rattle.grid.specs.Lookup.{cellContaining}

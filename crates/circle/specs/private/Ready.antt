@@ -6,7 +6,7 @@ use lib.ListN.{length, getD}
 use Rattle.grid.specs.declared.Grid.{Grid}
 use Rattle.grid.specs.Grid.{limit}
 use Rattle.table.specs.Place.{tableLength}
-use Rattle.kernel.specs.Cap.{closing}
+use Rattle.cap.specs.Cap.{closing}
 use Rattle.kernel.specs.declared.Kernel.{Kernel}
 
 -- a row of half-width h around a column

@@ -1,0 +1,2 @@
+-- The definitions that the contracts of `radius` cite.
+pub mod Radius

@@ -1,0 +1,3 @@
+-- Laws that belong to no one function, and worked examples.
+pub mod Laws
+pub mod Examples

@@ -1,0 +1,113 @@
+// Document 01, 'Geodesy': the stand-ins for sine, cosine, arctangent and arccosine. Every public function takes every value.
+ghost use mathlib.Core.Path.{_≡_};
+ghost use Prim.Native.Nat.{_<_, _≤_};
+ghost use Rattle.stand_ins.specs.StandIns.{sineTerm, sinOf, cosineTerm, cosOf, arctanTerm, arctanSeries, halved as halvedOf, arctanOf, atan2Of, acosOf};
+ghost use Rattle.stand_ins.specs.StandIns.{toRadians, toDegrees};
+
+pub const PI: f64 = 3.141592653589793;
+
+// One turn of the sine's loop.
+fn sine_term(z: f64, k: u32, s: f64) -> f64
+    requires { ⌜ k ≤ 15 ⌝ }
+    ensures { λ r. ⌜ r ≡ sineTerm z k s ⌝ }
+{
+    1.0 - z / ((2 * k * (2 * k + 1)) as f64) * s
+}
+
+pub fn sin(x: f64) -> f64
+    ensures { λ r. ⌜ r ≡ sinOf x ⌝ }
+{
+    let z = x * x;
+    let mut s = 1.0;
+    let mut k = 10;
+    while 0 < k {
+        s = sine_term(z, k, s);
+        k -= 1;
+    }
+    x * s
+}
+
+// One turn of the cosine's loop.
+fn cosine_term(z: f64, k: u32, c: f64) -> f64
+    requires { ⌜ (0 < k) × (k ≤ 15) ⌝ }
+    ensures { λ r. ⌜ r ≡ cosineTerm z k c ⌝ }
+{
+    1.0 - z / (((2 * k - 1) * (2 * k)) as f64) * c
+}
+
+pub fn cos(x: f64) -> f64
+    ensures { λ r. ⌜ r ≡ cosOf x ⌝ }
+{
+    let z = x * x;
+    let mut c = 1.0;
+    let mut k = 15;
+    while 0 < k {
+        c = cosine_term(z, k, c);
+        k -= 1;
+    }
+    c
+}
+
+// One turn of the arctangent's loop.
+fn arctan_term(w: f64, k: u32, a: f64) -> f64
+    requires { ⌜ k ≤ 15 ⌝ }
+    ensures { λ r. ⌜ r ≡ arctanTerm w k a ⌝ }
+{
+    1.0 / ((2 * k + 1) as f64) - w * a
+}
+
+// The arctangent's series in the square of the tangent.
+fn arctan_series(w: f64) -> f64
+    ensures { λ r. ⌜ r ≡ arctanSeries w ⌝ }
+{
+    let mut a = 1.0 / 21.0;
+    let mut k = 9;
+    while 0 < k {
+        a = arctan_term(w, k, a);
+        k -= 1;
+    }
+    arctan_term(w, 0, a)
+}
+
+// The tangent of half the angle whose tangent is t.
+fn halved(t: f64) -> f64
+    ensures { λ r. ⌜ r ≡ halvedOf t ⌝ }
+{
+    t / (1.0 + sqrt::sqrt(1.0 + t * t))
+}
+
+// Document 01's A(t): halved twice, so that the series is short.
+fn arctan(t: f64) -> f64
+    ensures { λ r. ⌜ r ≡ arctanOf t ⌝ }
+{
+    let u = halved(halved(t));
+    4.0 * (u * arctan_series(u * u))
+}
+
+// Close to the arctangent for y and x at least 0 and not both 0.
+pub fn atan2(y: f64, x: f64) -> f64
+    ensures { λ r. ⌜ r ≡ atan2Of y x ⌝ }
+{
+    if y <= x {
+        return arctan(y / x);
+    }
+    PI / 2.0 - arctan(x / y)
+}
+
+pub fn acos(ratio: f64) -> f64
+    ensures { λ r. ⌜ r ≡ acosOf ratio ⌝ }
+{
+    2.0 * atan2(sqrt::sqrt(1.0 - ratio), sqrt::sqrt(1.0 + ratio))
+}
+
+pub fn to_radians(degrees: f64) -> f64
+    ensures { λ r. ⌜ r ≡ toRadians degrees ⌝ }
+{
+    degrees * (PI / 180.0)
+}
+
+pub fn to_degrees(radians: f64) -> f64
+    ensures { λ r. ⌜ r ≡ toDegrees radians ⌝ }
+{
+    radians * (180.0 / PI)
+}
