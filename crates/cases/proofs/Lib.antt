@@ -1,2 +1,3 @@
--- The theorem that covers the table.
+-- The theorems that cover the tables.
 pub mod Table
+pub mod Grids

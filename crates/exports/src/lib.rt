@@ -5,7 +5,7 @@ ghost use Prim.Native.Nat.{_≤_};
 ghost use lib.Ieee.{binary64};
 ghost use lib.ListN.{length};
 ghost use lib.Seq.{sets};
-ghost use Rattle.float.specs.Float.{remEuclid};
+ghost use Rattle.remainder.specs.Remainder.{remEuclid};
 ghost use Rattle.sqrt.specs.Sqrt.{sqrtOf};
 ghost use Rattle.digest.specs.Digest.{digestOf};
 ghost use Rattle.geodesy.specs.Sphere.{greatCircleKm};
@@ -57,7 +57,7 @@ pub extern "C" fn exports_two_sum(a: f64, b: f64) -> f64
 pub extern "C" fn exports_rem_euclid(x: f64, m: f64) -> f64
     ensures { λ r. ⌜ r ≡ remEuclid x m ⌝ }
 {
-    float::rem_euclid(x, m)
+    remainder::rem_euclid(x, m)
 }
 
 // The kilometres, or -1 where the points are refused.

@@ -2,6 +2,7 @@
 use crate::answers::*;
 use crate::words::*;
 use float::*;
+use remainder::*;
 
 pub fn answer(call: &[u64]) -> Answer {
     let x = number(call, 1);

@@ -3,7 +3,8 @@ use mathlib.Core.Path.{_≡_, refl}
 use mathlib.Core.List.{List, [], _∷_}
 use Prim.Native.Nat.{ℕ}
 use lib.Ieee.{ofBits, ofInt, toUnsigned, add, sub, mul, div, rem, neg, lt, le, eq, isNan}
-use Rattle.float.specs.Float.{smaller, clamped, remEuclid}
+use Rattle.float.specs.Float.{smaller, clamped}
+use Rattle.remainder.specs.Remainder.{remEuclid}
 use Rattle.float.specs.TwoSum.{twoSum}
 use Rattle.sqrt.specs.Sqrt.{rootUnits}
 use Rattle.raster.specs.Raster.{kindOf}

@@ -91,7 +91,7 @@ pub(crate) fn put_number(out: &mut [u8], at: usize, n: u64, after: u8) -> usize
 fn is_count(x: f64) -> bool
     ensures { λ r. ⌜ r ≡ isCount x ⌝ }
 {
-    (0.0 <= x) & (x <= 9007199254740992.0) & (float::rem(x, 1.0) == 0.0)
+    (0.0 <= x) & (x <= 9007199254740992.0) & (remainder::rem(x, 1.0) == 0.0)
 }
 
 // A count as a whole number.

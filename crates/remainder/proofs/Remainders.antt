@@ -17,9 +17,9 @@ use lib.IntN.{pos}
 use lib.Ieee.{Float, nan, inf, fin, Format, binary64, up, down, rem, div, mul, neg, round, unlike, ofFields, ofBits, ofInt, fits}
 use lib.Ieee.{toBits, inFloat}
 use lib.Ieee.Bits.{ofBits-toBits}
-use Rattle.float.specs.private.Remainder.{PatternUnits, signed}
+use Rattle.remainder.specs.private.Units.{PatternUnits, signed}
 use Rattle.float.proofs.Patterns.{pattern-nan}
 use Rattle.float.proofs.Values.{value-unique}
 use lib.Ieee.Fits.{down-pos, up-pos, round-fits}
 use lib.Ieee.Exact.{HasValue, odd-sign, round-exact}
 use lib.Ieee.Back.{round-whole}

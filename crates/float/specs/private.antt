@@ -1,2 +1,0 @@
--- What private functions of `float` go by.
-pub mod Remainder

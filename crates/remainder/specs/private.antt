@@ -1,0 +1,2 @@
+-- What private functions of `remainder` go by.
+pub mod Units
