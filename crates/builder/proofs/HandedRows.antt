@@ -35,15 +35,11 @@ pub clear-turn : (l : List Float) (i : ℕ) → i < length l → set (clearedTo 
 unfolding clearedTo
 clear-turn l i h = rw (add-one, drop-cons l i nan h, set-at _ _ _ _ i (length-replicate i f64zero)) (replicate-snoc i f64zero _)
 
--- at factor 1 what is handed on of n zeros is so many zeros
+-- the first n of m zeros are n zeros
 pub take-zeros : {A : Type 0} (n m : ℕ) (v : A) → n ≤ m → take n (replicate m v) ≡ replicate n v
 take-zeros zero m v h = refl
 take-zeros (suc n) zero v h = absurd (omega arith)
 take-zeros {A} (suc n) (suc m) v h = ap (λ (r : List A). v ∷ r) (take-zeros n m v (omega arith))
-
-pub zeros-handed-on : (n m : ℕ) (coarse : List Float) → n ≤ m → handedOn (replicate m f64zero) coarse 1 n ≡ replicate n f64zero
-unfolding handedOn
-zeros-handed-on n m coarse h = take-zeros n m f64zero h
 
 pub clear-end : (l : List Float) (i : ℕ) → i ≡ length l → clearedTo i l ≡ replicate (length l) f64zero
 unfolding clearedTo

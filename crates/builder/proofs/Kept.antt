@@ -80,6 +80,10 @@ module _ (b : Builder) (row : List ℕ) (m : Buffers) (t : Taken b row m) where
   pub taken-room : Room d (length acc) (length (m .coarse)) (length (m .table))
   taken-room = record { valid = standing b (t .valid) .made; acc = wide; coarse = t .lengths .coarse; table = t .lengths .table }
 
+  -- so it is with the accumulator that a sweep leaves
+  pub swept-room : (left : List Float) → left ≡ acc → Room d (length left) (length (m .coarse)) (length (m .table))
+  swept-room left e = rw e taken-room
+
   pub taken-inside : completedRow b ≤ d .grid .height
   taken-inside = completed-inside d (b .rows) (builder-framed b (t .valid)) (t .left)
 

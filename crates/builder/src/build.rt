@@ -2,18 +2,14 @@
 ghost use mathlib.Core.Path.{_≡_};
 ghost use lib.ListN.{length, replicate};
 ghost use Rattle.float.specs.Float.{f64zero};
-ghost use Rattle.refusal.specs.Refusal.{answered};
-ghost use Rattle.raster.specs.Raster.{sanitisedRow};
-ghost use Rattle.decimation.specs.Decimation.{decimationNew};
-ghost use Rattle.builder.specs.Build.{buffers, lengthsOf, builderOutcome, finishOutcome, startCall, rowRefusal, builderAfter, buffersAfter, rowCall};
-ghost use Rattle.builder.specs.Build.{rowLeft, finishCall};
+ghost use Rattle.refusal.specs.Refusal.{outcome};
+ghost use Rattle.builder.specs.Build.{buffers, builderOutcome, finishOutcome, startRefusal, firstBuilder, startCall, rowCall, rowLeft, finishCall};
 use crate::Builder;
 use crate::BuilderAnswer;
 use crate::BuiltTable;
 use crate::FinishAnswer;
 use crate::Lengths;
 use crate::checks::lent_refusal;
-use crate::hand_on::decimated;
 use crate::hand_on::lay;
 use decimation::Decimation;
 use decimation::DecimationAnswer;
@@ -31,50 +27,31 @@ fn clear(cells: &mut [f64])
 }
 
 impl Builder {
-    // A start, once there is a decimation. The first table row is the accumulator's zeros: the padding that lets a
-    // rectangle at the north edge subtract four corners like any other.
-    fn begin(
-        d: Decimation,
-        nodata: u32,
-        acc: &mut [f64],
-        corr: &mut [f64],
-        coarse: &mut [f64],
-        table: &mut [f64],
-    ) -> BuilderAnswer
-        requires { ⌜ decimationNew (d .source) (d .factor) ≡ answered d ⌝ }
-        ensures { λ r. ⌜ (builderOutcome r ≡ startCall (d .source) (d .factor) nodata
-            (buffers (now (acc .entry)) (now (corr .entry)) (now (coarse .entry)) (now (table .entry))) .answer)
-            × (buffers (now (acc .exit)) (now (corr .exit)) (now (coarse .exit)) (now (table .exit))
-            ≡ startCall (d .source) (d .factor) nodata
-            (buffers (now (acc .entry)) (now (corr .entry)) (now (coarse .entry)) (now (table .entry))) .buffers) ⌝ }
+    // What a start gives, by the lengths of what it is lent.
+    fn begin(source: Grid, factor: u32, nodata: u32, lent: Lengths) -> BuilderAnswer
+        ensures { λ r. ⌜ builderOutcome r ≡ outcome (startRefusal source factor lent) (firstBuilder source factor nodata) ⌝ }
     {
-        let lent = Lengths {
-            acc: acc.len(),
-            corr: corr.len(),
-            coarse: coarse.len(),
-            table: table.len(),
-        };
-        let n = lent_refusal(d, lent, refusal::PASSED);
-        if n != refusal::PASSED {
-            return BuilderAnswer::Refused(n);
+        let made = Decimation::new(source, factor);
+        match made {
+            DecimationAnswer::Made(d) => {
+                let n = lent_refusal(d, lent, refusal::PASSED);
+                if n != refusal::PASSED {
+                    return BuilderAnswer::Refused(n);
+                }
+                BuilderAnswer::Accepted(Builder {
+                    decimation: d,
+                    nodata,
+                    rows: 0,
+                    digest: digest::FNV_OFFSET_BASIS,
+                    tallies: CellTallies::none(),
+                })
+            }
+            DecimationAnswer::Refused(n) => BuilderAnswer::Refused(n),
         }
-        clear(acc);
-        clear(corr);
-        lay(
-            table,
-            d.grid,
-            0,
-            decimated(acc, coarse, 1, d.grid.width as usize + 1),
-        );
-        BuilderAnswer::Accepted(Builder {
-            decimation: d,
-            nodata,
-            rows: 0,
-            digest: digest::FNV_OFFSET_BASIS,
-            tallies: CellTallies::none(),
-        })
     }
 
+    // The first table row is the accumulator's zeros: the padding that lets a rectangle at the north edge subtract four
+    // corners like any other.
     pub fn start(
         source: Grid,
         factor: u32,
@@ -89,39 +66,21 @@ impl Builder {
             × (buffers (now (acc .exit)) (now (corr .exit)) (now (coarse .exit)) (now (table .exit))
             ≡ startCall source factor nodata (buffers (now (acc .entry)) (now (corr .entry)) (now (coarse .entry)) (now (table .entry))) .buffers) ⌝ }
     {
-        let made = Decimation::new(source, factor);
-        match made {
-            DecimationAnswer::Made(d) => Builder::begin(d, nodata, acc, corr, coarse, table),
-            DecimationAnswer::Refused(n) => BuilderAnswer::Refused(n),
-        }
-    }
-
-    // A row that no check refuses is taken in.
-    fn take_row(
-        self,
-        row: &mut [u32],
-        acc: &mut [f64],
-        corr: &mut [f64],
-        coarse: &mut [f64],
-        table: &mut [f64],
-    ) -> Builder
-        requires { ⌜ rowRefusal self (length (now row)) (lengthsOf (buffers (now acc) (now corr) (now coarse) (now table))) ≡ 0 ⌝ }
-        ensures { λ r. ⌜ (r ≡ builderAfter self (now (row .entry))) × (now (row .exit) ≡ sanitisedRow (self .nodata) (now (row .entry)))
-            × (buffers (now (acc .exit)) (now (corr .exit)) (now (coarse .exit)) (now (table .exit))
-            ≡ buffersAfter self (now (row .entry)) (buffers (now (acc .entry)) (now (corr .entry)) (now (coarse .entry)) (now (table .entry)))) ⌝ }
-    {
-        let decimation = self.decimation;
-        let before = self.tallies;
-        let swept = sweep::sweep_row(acc, corr, row, self.nodata, self.digest);
-        let tallies = before.plus(swept.tallies);
-        self.hand_on(acc, coarse, table);
-        Builder {
-            decimation,
-            nodata: self.nodata,
-            rows: self.rows + 1,
-            digest: swept.digest,
-            tallies,
-        }
+        let lent = Lengths {
+            acc: acc.len(),
+            corr: corr.len(),
+            coarse: coarse.len(),
+            table: table.len(),
+        };
+        let begun = Builder::begin(source, factor, nodata, lent);
+        let BuilderAnswer::Accepted(b) = begun else {
+            return begun;
+        };
+        let d = b.decimation;
+        clear(acc);
+        clear(corr);
+        lay(table, d.grid, 0, &acc[..d.grid.width as usize + 1]);
+        begun
     }
 
     pub fn row(
@@ -148,7 +107,18 @@ impl Builder {
         if n != refusal::PASSED {
             return BuilderAnswer::Refused(n);
         }
-        BuilderAnswer::Accepted(self.take_row(row, acc, corr, coarse, table))
+        let swept = sweep::sweep_row(acc, corr, row, self.nodata, self.digest);
+        self.hand_on(acc, coarse, table);
+        let decimation = self.decimation;
+        let before = self.tallies;
+        let tallies = before.plus(swept.tallies);
+        BuilderAnswer::Accepted(Builder {
+            decimation,
+            nodata: self.nodata,
+            rows: self.rows + 1,
+            digest: swept.digest,
+            tallies,
+        })
     }
 
     pub fn finish(self, acc: &[f64], corr: &[f64], coarse: &[f64], table: &[f64]) -> FinishAnswer

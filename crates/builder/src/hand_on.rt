@@ -8,7 +8,6 @@ ghost use Rattle.builder.specs.Rows.{sampled, coarseFilled, handedOn};
 ghost use Rattle.builder.specs.Build.{coarseAfter, tableAfter};
 ghost use Rattle.builder.specs.private.Room.{Room, RowRoom};
 use crate::Builder;
-use decimation::Decimation;
 use grid::Grid;
 use table::Table;
 
@@ -35,7 +34,7 @@ fn fill_coarse(coarse: &mut [f64], acc: &[f64], factor: usize)
 
 // The row handed on: the accumulator itself at factor 1, else the coarse row. A prefix sum over blocks and one over
 // cells agree at every block's corner, so nothing is summed again.
-pub(crate) fn decimated<'a>(acc: &'a [f64], coarse: &'a [f64], factor: usize, n: usize) -> &'a [f64]
+fn decimated<'a>(acc: &'a [f64], coarse: &'a [f64], factor: usize, n: usize) -> &'a [f64]
     requires { ⌜ (n ≤ length (now acc)) × (n ≤ length (now coarse)) ⌝ }
     ensures { λ r. ⌜ now r ≡ handedOn (now (acc .entry)) (now (coarse .entry)) factor n ⌝ }
 {
@@ -65,18 +64,6 @@ pub(crate) fn lay(table: &mut [f64], grid: Grid, at: u32, row: &[f64])
     emit(&mut table[start..], row);
 }
 
-fn complete_row(d: Decimation, at: u32, acc: &[f64], coarse: &mut [f64], table: &mut [f64])
-    requires { ⌜ (Room d (length (now acc)) (length (now coarse)) (length (now table))) × (at ≤ d .grid .height) ⌝ }
-    ensures { λ _. ⌜ (now (coarse .exit) ≡ coarseFilled (now (acc .entry)) (now (coarse .entry)) (d .factor))
-        × (now (table .exit) ≡ laidRow (d .grid .width) (now (table .entry)) at
-        (handedOn (now (acc .entry)) (coarseFilled (now (acc .entry)) (now (coarse .entry)) (d .factor)) (d .factor) (d .grid .width + 1))) ⌝ }
-{
-    let factor = d.factor as usize;
-    let n = d.grid.width as usize + 1;
-    fill_coarse(coarse, acc, factor);
-    lay(table, d.grid, at, decimated(acc, coarse, factor, n));
-}
-
 impl Builder {
     // The factor divides the height, so the last row always completes a table row: no block is left part filled.
     pub(crate) fn hand_on(self, acc: &[f64], coarse: &mut [f64], table: &mut [f64])
@@ -87,8 +74,17 @@ impl Builder {
     {
         let d = self.decimation;
         let rows = self.rows + 1;
-        if rows % d.factor == 0 {
-            complete_row(d, rows / d.factor, acc, coarse, table);
+        if rows % d.factor != 0 {
+            return;
         }
+        let factor = d.factor as usize;
+        let n = d.grid.width as usize + 1;
+        fill_coarse(coarse, acc, factor);
+        lay(
+            table,
+            d.grid,
+            rows / d.factor,
+            decimated(acc, coarse, factor, n),
+        );
     }
 }
