@@ -7,7 +7,7 @@ use Rattle.grid.proofs.Grid.col_of_lon.Tie as tie
 
 returns : tie.Need-returns
 unfolding colOfLon
-returns c = cc
+returns c = rw (c .index-from-offset .ensures, c .before .rem-euclid .ensures, c .before .before .cells-around .ensures)
 
 pub col-of-lon-spec : {M : Type 1} → statement M
 col-of-lon-spec =
