@@ -25,4 +25,4 @@ kernel-of-spec =
     tie.close
     (tie.spec returns (λ c κs. search needs) (λ c κs. search needs) (λ c κs. search needs) (λ c κs. search needs)
     (λ c. search needs) (λ c κs. search needs) (λ c. search needs) (λ c. search needs) (λ c. search needs)
-    (λ c κs. search needs) (λ c. search needs) returns-2)
+    (λ c κs. search needs) (λ c. c .before .before .fill .kept .1 .1 .1 .1 .0) returns-2)

@@ -15,4 +15,4 @@ unfolding coarseFilled
 returns-2 c = simp (eq-eqb _ _ (c .if1 .left))
 
 pub fill-coarse-spec : {M : Type 1} → statement M
-fill-coarse-spec = tie.close (tie.spec (λ c κs. search needs) (λ c. search needs) returns returns-2)
+fill-coarse-spec = tie.close (tie.spec (λ c κs. search needs) (λ c. c .before .before .fill .kept .0) returns returns-2)

@@ -29,4 +29,4 @@ pub is-valid-spec : {M : Type 1} → statement M
 is-valid-spec =
     tie.close
     (tie.spec (λ c. search needs) (λ c. search needs) (λ c. search needs) (λ c. search needs) returns (λ c κs. search needs)
-    (λ c κs. search needs) (λ c κs. search needs) (λ c κs. search needs) returns-2)
+    (λ c κs. c .before .if1 .left) (λ c κs. search needs) (λ c κs. search needs) returns-2)
