@@ -1,5 +1,5 @@
 -- The sweep of a row: one turn of it, and the lengths that it keeps. Assumes nothing.
-use mathlib.Core.Path.{_≡_, refl, ap}
+use mathlib.Core.Path.{_≡_, refl, ap, _∙_}
 use mathlib.Core.List.{List, [], _∷_, _++_, append-nil}
 use Prim.Native.Nat.{ℕ, suc, _+_, _-_, _<_, _≤_, min}
 use native.Mathlib.Nat.{le-refl}
@@ -10,58 +10,85 @@ use lib.Seq.{drop-cons, take-suc-set, drop-set-lt, append-snoc, take-all}
 use lib.Ieee.{Float, nan}
 use Rattle.float.specs.Float.{f64zero}
 use Rattle.digest.specs.Digest.{mixed, digestOf}
-use Rattle.raster.specs.Raster.{cellValue, sanitised, sanitisedRow}
-use Rattle.sweep.specs.declared.Carry.{Carry}
+use Rattle.raster.specs.Raster.{kindOf, sanitised, sanitisedRow, noTallies, tallied, rowTallies, cellsOf}
+use Rattle.raster.specs.declared.CellTallies.{CellTallies}
+use Rattle.raster.proofs.Tallies.{talliesFrom, one-more, tallies-held}
+use Rattle.raster.proofs.Turn.{mapFrom, map-turn, tallies-turn}
+use Rattle.sweep.specs.declared.Sofar.{Sofar}
 use Rattle.sweep.specs.declared.Column.{Column}
 use Rattle.sweep.specs.Sweep.{sweptAcc, sweptCorr, accAfter, corrAfter}
 use Rattle.sweep.specs.private.Cell.{swept}
 
 -- ---- a turn of the sweep
 
--- the columns below i as they are, and the rest as the sweep of the cells from i on, sanitised, leaves it
-abbrev pub fromAcc : ℕ → Carry → List ℕ → List Float → List Float → ℕ → List Float
-fromAcc nodata k row acc corr i = take i acc ++ sweptAcc (k .prefix) (k .corr) (sanitisedRow nodata (drop i row)) (drop i acc) (drop i corr)
+-- the columns below j as they are, and the rest as the sweep of the cells from i on, sanitised, leaves it
+abbrev fromAcc : ℕ → Sofar → List ℕ → List Float → List Float → ℕ → ℕ → List Float
+fromAcc nodata s row acc corr i j = take j acc ++ sweptAcc (s .prefix) (s .corr) (sanitisedRow nodata (drop i row)) (drop j acc) (drop j corr)
 
-abbrev pub fromCorr : ℕ → Carry → List ℕ → List Float → List Float → ℕ → List Float
-fromCorr nodata k row acc corr i = take i corr ++ sweptCorr (k .prefix) (k .corr) (sanitisedRow nodata (drop i row)) (drop i acc) (drop i corr)
+abbrev fromCorr : ℕ → Sofar → List ℕ → List Float → List Float → ℕ → ℕ → List Float
+fromCorr nodata s row acc corr i j = take j corr ++ sweptCorr (s .prefix) (s .corr) (sanitisedRow nodata (drop i row)) (drop j acc) (drop j corr)
 
-module _ (nodata : ℕ) (k : Carry) (row : List ℕ) (acc corr : List Float) (i : ℕ) (r : i < length row) (a : i < length acc) (c : i < length corr)
-    (x : ℕ) (s : Column) (e : s ≡ swept k (cellValue (sanitised nodata (getD row i 0))) (getD acc i nan) (getD corr i nan)) where
-  pub turn-acc : fromAcc nodata (s .carry) (set row i x) (set acc i (s .acc)) (set corr i (s .corr)) (i + 1) ≡ fromAcc nodata k row acc corr i
+-- what is done, then what becomes of the rest, is what becomes of the whole
+pub record Midway (nodata digest : ℕ) (row₀ : List ℕ) (acc₀ corr₀ : List Float) (acc corr : List Float) (row : List ℕ) (s : Sofar) (i : ℕ) : Type 0 where
+  cells : cellsOf (s .tallies) ≡ i
+  pub sums : fromAcc nodata s row acc corr i (i + 1) ≡ accAfter (sanitisedRow nodata row₀) acc₀ corr₀
+  pub corrections : fromCorr nodata s row acc corr i (i + 1) ≡ corrAfter (sanitisedRow nodata row₀) acc₀ corr₀
+  pub clean : mapFrom (sanitised nodata) row i ≡ sanitisedRow nodata row₀
+  pub tallies : talliesFrom nodata (s .tallies) (drop i row) ≡ rowTallies nodata row₀
+  pub digests : digestOf (s .digest) (sanitisedRow nodata (drop i row)) ≡ digestOf digest (sanitisedRow nodata row₀)
+
+pub start : (nodata digest : ℕ) (row : List ℕ) (acc corr : List Float) (t : CellTallies) → t ≡ noTallies
+    → Midway nodata digest row acc corr acc corr row (record { prefix = f64zero; corr = f64zero; digest = digest; tallies = t }) 0
+unfolding accAfter corrAfter
+start nodata digest row acc corr t e = rw e (record { cells = refl; sums = refl; corrections = refl; clean = refl; tallies = refl; digests = refl })
+
+module _ (nodata : ℕ) (row : List ℕ) (acc corr : List Float) (s : Sofar) (i : ℕ) (r : i < length row) where
+  -- a column swept with cell i
+  abbrev cell : ℕ → Column
+  cell j = swept nodata s (getD row i 0) (getD acc j nan) (getD corr j nan)
+
+  module _ (j : ℕ) (a : j < length acc) (c : j < length corr) where
+    turn-sums : (fromAcc nodata (cell j .sofar) (set row i (cell j .cell)) (set acc j (cell j .acc)) (set corr j (cell j .corr)) (i + 1) (j + 1)
+        ≡ fromAcc nodata s row acc corr i j)
+        × (fromCorr nodata (cell j .sofar) (set row i (cell j .cell)) (set acc j (cell j .acc)) (set corr j (cell j .corr)) (i + 1) (j + 1)
+        ≡ fromCorr nodata s row acc corr i j)
+    unfolding swept
+    turn-sums =
+        rw (
+          add-one i,
+          add-one j,
+          take-suc-set acc j,
+          take-suc-set corr j,
+          drop-set-lt (suc i) row i _ (le-refl (suc i)),
+          drop-set-lt (suc j) acc j _ (le-refl (suc j)),
+          drop-set-lt (suc j) corr j _ (le-refl (suc j)),
+          append-snoc,
+          append-snoc,
+          drop-cons row i 0 r,
+          drop-cons acc j nan a,
+          drop-cons corr j nan c,
+        ) (refl, refl)
+
+  turn-digest : (d x : ℕ) → x ≡ sanitised nodata (getD row i 0)
+      → digestOf (mixed d x) (sanitisedRow nodata (drop (i + 1) (set row i x))) ≡ digestOf d (sanitisedRow nodata (drop i row))
+  turn-digest d x e = rw (add-one, drop-set-lt (suc i) row i x (le-refl (suc i)), drop-cons row i 0 r, e)
+
+  pub turn : (digest : ℕ) (row₀ : List ℕ) (acc₀ corr₀ : List Float) (col : Column) → col ≡ cell (i + 1)
+      → i + 1 < length acc → i + 1 < length corr → i < 0xffff_ffff_ffff_ffff
+      → Midway nodata digest row₀ acc₀ corr₀ acc corr row s i
+      → Midway nodata digest row₀ acc₀ corr₀ (set acc (i + 1) (col .acc)) (set corr (i + 1) (col .corr)) (set row i (col .cell)) (col .sofar) (i + 1)
   unfolding swept
-  turn-acc =
-      rw (
-        e,
-        add-one,
-        take-suc-set acc i,
-        drop-set-lt (suc i) row i _ (le-refl (suc i)),
-        drop-set-lt (suc i) acc i _ (le-refl (suc i)),
-        drop-set-lt (suc i) corr i _ (le-refl (suc i)),
-        append-snoc,
-        drop-cons row i 0 r,
-        drop-cons acc i nan a,
-        drop-cons corr i nan c,
-      )
-
-  pub turn-corr : fromCorr nodata (s .carry) (set row i x) (set acc i (s .acc)) (set corr i (s .corr)) (i + 1) ≡ fromCorr nodata k row acc corr i
-  unfolding swept
-  turn-corr =
-      rw (
-        e,
-        add-one,
-        take-suc-set corr i,
-        drop-set-lt (suc i) row i _ (le-refl (suc i)),
-        drop-set-lt (suc i) acc i _ (le-refl (suc i)),
-        drop-set-lt (suc i) corr i _ (le-refl (suc i)),
-        append-snoc,
-        drop-cons row i 0 r,
-        drop-cons acc i nan a,
-        drop-cons corr i nan c,
-      )
-
-pub turn-digest : (nodata d : ℕ) (row : List ℕ) (i x : ℕ) → i < length row → x ≡ sanitised nodata (getD row i 0)
-    → digestOf (mixed d x) (sanitisedRow nodata (drop (i + 1) (set row i x))) ≡ digestOf d (sanitisedRow nodata (drop i row))
-turn-digest nodata d row i x r e = rw (add-one, drop-set-lt (suc i) row i x (le-refl (suc i)), drop-cons row i 0 r, e)
+  turn digest row₀ acc₀ corr₀ col e a c b m =
+      let one = one-more (s .tallies) (kindOf nodata (getD row i 0)) in
+      let t = tallies-held (tallied (s .tallies) (kindOf nodata (getD row i 0))) (omega (arith, one, m .cells)) in
+      rw e (record {
+        cells = ap cellsOf t ∙ one ∙ ap (λ n. n + 1) (m .cells);
+        sums = turn-sums (i + 1) a c .0 ∙ m .sums;
+        corrections = turn-sums (i + 1) a c .1 ∙ m .corrections;
+        clean = map-turn (sanitised nodata) row i _ r refl ∙ m .clean;
+        tallies = rw t (tallies-turn nodata (s .tallies) row i _ r) ∙ m .tallies;
+        digests = turn-digest (s .digest) _ refl ∙ m .digests;
+      })
 
 -- a sweep of no cells, or of no columns, leaves everything
 module _ (prefix rest : Float) where
@@ -80,37 +107,26 @@ module _ (prefix rest : Float) where
 min-sub : (a b i : ℕ) → min (a - i) (b - i) ≡ min a b - i
 min-sub a b i = omega arith
 
+none-above : (r m i : ℕ) → min r (m - 1) ≤ i → min (r - i) (m - (i + 1)) ≡ 0
+none-above r m i h = omega arith
+
 -- the sweep ends where the row or the columns do
-module _ (nodata : ℕ) (k : Carry) (row : List ℕ) (acc corr : List Float) (i : ℕ) (r : min (length row) (min (length acc) (length corr)) ≤ i) where
-  none-left : min (length (sanitisedRow nodata (drop i row))) (min (length (drop i acc)) (length (drop i corr))) ≡ 0
+module _ (nodata : ℕ) (s : Sofar) (row : List ℕ) (acc corr : List Float) (i : ℕ) (r : min (length row) (min (length acc) (length corr) - 1) ≤ i) where
+  none-left : min (length (sanitisedRow nodata (drop i row))) (min (length (drop (i + 1) acc)) (length (drop (i + 1) corr))) ≡ 0
   none-left =
       rw (
         length-map (drop i row) (sanitised nodata),
         length-drop i row,
-        length-drop i acc,
-        length-drop i corr,
-        min-sub (length acc) (length corr) i,
-        min-sub (length row) (min (length acc) (length corr)) i,
-      ) (omega arith)
+        length-drop (i + 1) acc,
+        length-drop (i + 1) corr,
+        min-sub (length acc) (length corr) (i + 1),
+      ) (none-above (length row) (min (length acc) (length corr)) i r)
 
-  pub end-acc : fromAcc nodata k row acc corr i ≡ acc
-  end-acc = rw (none-acc (k .prefix) (k .corr) (sanitisedRow nodata (drop i row)) (drop i acc) (drop i corr) none-left, take-append-drop)
+  pub end-acc : fromAcc nodata s row acc corr i (i + 1) ≡ acc
+  end-acc = rw (none-acc (s .prefix) (s .corr) (sanitisedRow nodata (drop i row)) (drop (i + 1) acc) (drop (i + 1) corr) none-left, take-append-drop)
 
-  pub end-corr : fromCorr nodata k row acc corr i ≡ corr
-  end-corr = rw (none-corr (k .prefix) (k .corr) (sanitisedRow nodata (drop i row)) (drop i acc) (drop i corr) none-left, take-append-drop)
-
--- with no column a row changes no sum
-module _ (row : List ℕ) (acc corr : List Float) (e : min (length acc) (length corr) ≡ 0) where
-  no-columns : min (length row) (min (length (drop 1 acc)) (length (drop 1 corr))) ≡ 0
-  no-columns = rw (length-drop 1 acc, length-drop 1 corr, min-sub (length acc) (length corr) 1) (omega arith)
-
-  pub acc-stays : acc ≡ accAfter row acc corr
-  unfolding accAfter
-  acc-stays = rw (none-acc f64zero f64zero row (drop 1 acc) (drop 1 corr) no-columns, take-append-drop)
-
-  pub corr-stays : corr ≡ corrAfter row acc corr
-  unfolding corrAfter
-  corr-stays = rw (none-corr f64zero f64zero row (drop 1 acc) (drop 1 corr) no-columns, take-append-drop)
+  pub end-corr : fromCorr nodata s row acc corr i (i + 1) ≡ corr
+  end-corr = rw (none-corr (s .prefix) (s .corr) (sanitisedRow nodata (drop i row)) (drop (i + 1) acc) (drop (i + 1) corr) none-left, take-append-drop)
 
 -- ---- a slice lent from an element on
 

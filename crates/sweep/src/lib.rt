@@ -1,10 +1,11 @@
 // A row goes into the column sums and the digest (`build` of table.rs).
 ghost use mathlib.Core.Path.{_≡_};
-ghost use Prim.Native.Nat.{min};
+ghost use mathlib.Core.List.{_++_};
+ghost use Prim.Native.Nat.{_≤_, _-_, min};
+ghost use lib.ListN.{length, take, drop};
 ghost use Rattle.digest.specs.Digest.{digestOf};
-ghost use Rattle.float.specs.Float.{f64zero};
-ghost use Rattle.raster.specs.Raster.{sanitisedRow, rowTallies};
-ghost use Rattle.sweep.specs.Sweep.{takenIn, sweptAcc, sweptCorr, accAfter, corrAfter};
+ghost use Rattle.raster.specs.Raster.{sanitisedRow, rowTallies, plusTallies, heldTallies};
+ghost use Rattle.sweep.specs.Sweep.{takenIn, accAfter, corrAfter};
 ghost use Rattle.sweep.specs.private.Cell.{swept};
 use float::TwoSum;
 use raster::CellTallies;
@@ -15,17 +16,20 @@ pub struct Swept {
     pub tallies: CellTallies,
 }
 
-// A row's running prefix with its correction.
-struct Carry {
+// A row so far: its running prefix with its correction, the digest, and the tallies.
+struct Sofar {
     prefix: f64,
     corr: f64,
+    digest: u64,
+    tallies: CellTallies,
 }
 
-// A column after a cell, and the row's carry.
+// A column after a cell, the cell as sanitised, and the row so far.
 struct Column {
-    carry: Carry,
     acc: f64,
     corr: f64,
+    cell: u32,
+    sofar: Sofar,
 }
 
 // A sum with its correction takes in x. What the sum leaves out is put back in each time, so a column's sum can be
@@ -37,19 +41,25 @@ fn take_in(sum: f64, corr: f64, x: f64) -> TwoSum
     float::two_sum(t.sum, corr + t.dropped)
 }
 
-// One cell: the row's prefix takes it in, then the column takes in the prefix.
-fn sweep_cell(k: Carry, x: f64, acc: f64, corr: f64) -> Column
-    ensures { λ r. ⌜ r ≡ swept k x acc corr ⌝ }
+// One cell is sanitised, tallied and goes into the digest; the row's prefix takes it in, then the column takes in the
+// prefix. The sums wait for each other, and all the rest runs meanwhile.
+fn sweep_cell(s: Sofar, bits: u32, nodata: u32, acc: f64, corr: f64) -> Column
+    ensures { λ r. ⌜ r ≡ swept nodata s bits acc corr ⌝ }
 {
-    let p = take_in(k.prefix, k.corr, x);
+    let kind = raster::classify(bits, nodata);
+    let cell = raster::keep(kind, bits);
+    let p = take_in(s.prefix, s.corr, float::widen(cell));
     let q = take_in(acc, corr, p.sum);
     Column {
-        carry: Carry {
-            prefix: p.sum,
-            corr: p.dropped,
-        },
         acc: q.sum,
         corr: q.dropped,
+        cell,
+        sofar: Sofar {
+            prefix: p.sum,
+            corr: p.dropped,
+            digest: digest::mix(s.digest, cell),
+            tallies: s.tallies.with(kind),
+        },
     }
 }
 
@@ -57,6 +67,17 @@ fn shorter(a: usize, b: usize) -> usize
     ensures { λ r. ⌜ r ≡ min a b ⌝ }
 {
     if a <= b { a } else { b }
+}
+
+// How many cells have a column: the first cell of accumulator and corrections belongs to none.
+fn columns(acc: usize, corr: usize, row: usize) -> usize
+    ensures { λ r. ⌜ r ≡ min row (min acc corr - 1) ⌝ }
+{
+    let n = shorter(acc, corr);
+    if n == 0 {
+        return 0;
+    }
+    shorter(row, n - 1)
 }
 
 // Cells that have no column are sanitised, tallied and go into the digest.
@@ -71,43 +92,21 @@ fn pass_by(row: &mut [u32], nodata: u32, digest: u64) -> Swept
     }
 }
 
-// A cell is sanitised, tallied, swept and goes into the digest in one pass: the sums wait for each other, and all the
-// rest runs meanwhile.
-fn sweep(acc: &mut [f64], corr: &mut [f64], row: &mut [u32], nodata: u32, digest: u64) -> Swept
-    ensures { λ r. ⌜ (r .digest ≡ digestOf digest (sanitisedRow nodata (now (row .entry)))) × (r .tallies ≡ rowTallies nodata (now (row .entry)))
-        × (now (acc .exit) ≡ sweptAcc f64zero f64zero (sanitisedRow nodata (now (row .entry))) (now (acc .entry)) (now (corr .entry)))
-        × (now (corr .exit) ≡ sweptCorr f64zero f64zero (sanitisedRow nodata (now (row .entry))) (now (acc .entry)) (now (corr .entry)))
-        × (now (row .exit) ≡ sanitisedRow nodata (now (row .entry))) ⌝ }
+// The cells from i on have no column.
+fn finish(row: &mut [u32], i: usize, nodata: u32, s: Sofar) -> Swept
+    requires { ⌜ i ≤ length (now row) ⌝ }
+    ensures { λ r. ⌜ (r .digest ≡ digestOf (s .digest) (sanitisedRow nodata (drop i (now (row .entry)))))
+        × (r .tallies ≡ heldTallies (plusTallies (s .tallies) (rowTallies nodata (drop i (now (row .entry))))))
+        × (now (row .exit) ≡ take i (now (row .entry)) ++ sanitisedRow nodata (drop i (now (row .entry)))) ⌝ }
 {
-    let mut k = Carry {
-        prefix: 0.0,
-        corr: 0.0,
-    };
-    let n = shorter(row.len(), shorter(acc.len(), corr.len()));
-    let mut t = CellTallies::none();
-    let mut d = digest;
-    let mut i = 0;
-    while i < n {
-        let bits = row[i];
-        let kind = raster::classify(bits, nodata);
-        let cell = raster::keep(kind, bits);
-        let s = sweep_cell(k, float::widen(cell), acc[i], corr[i]);
-        row[i] = cell;
-        acc[i] = s.acc;
-        corr[i] = s.corr;
-        k = s.carry;
-        t = t.with(kind);
-        d = digest::mix(d, cell);
-        i += 1;
-    }
-    let rest = pass_by(&mut row[i..], nodata, d);
+    let rest = pass_by(&mut row[i..], nodata, s.digest);
     Swept {
         digest: rest.digest,
-        tallies: t.plus(rest.tallies),
+        tallies: s.tallies.plus(rest.tallies),
     }
 }
 
-// A row is sanitised in place and goes into accumulator and corrections, whose first cell belongs to no column.
+// A row is sanitised in place and goes into accumulator and corrections, each cell in one pass over all that becomes of it.
 pub fn sweep_row(
     acc: &mut [f64],
     corr: &mut [f64],
@@ -120,8 +119,22 @@ pub fn sweep_row(
         × (now (corr .exit) ≡ corrAfter (sanitisedRow nodata (now (row .entry))) (now (acc .entry)) (now (corr .entry)))
         × (now (row .exit) ≡ sanitisedRow nodata (now (row .entry))) ⌝ }
 {
-    if shorter(acc.len(), corr.len()) == 0 {
-        return pass_by(row, nodata, digest);
+    let n = columns(acc.len(), corr.len(), row.len());
+    let mut s = Sofar {
+        prefix: 0.0,
+        corr: 0.0,
+        digest,
+        tallies: CellTallies::none(),
+    };
+    let mut i = 0;
+    while i < n {
+        let j = i + 1;
+        let c = sweep_cell(s, row[i], nodata, acc[j], corr[j]);
+        row[i] = c.cell;
+        acc[j] = c.acc;
+        corr[j] = c.corr;
+        s = c.sofar;
+        i = j;
     }
-    sweep(&mut acc[1..], &mut corr[1..], row, nodata, digest)
+    finish(row, i, nodata, s)
 }

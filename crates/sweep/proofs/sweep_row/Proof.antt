@@ -1,49 +1,64 @@
--- `sweep::sweep_row` meets its contract.
+-- `sweep::sweep_row` meets its contract. The invariant: what is done, then what becomes of the rest, is what becomes of the whole.
 -- Assumes nothing.
-use mathlib.Core.Path.{_≡_, sym, _∙_}
-use Prim.Native.Nat.{min}
-use lib.ListN.{length}
-use Rattle.raster.specs.Raster.{sanitisedRow}
-use Rattle.sweep.specs.Sweep.{accAfter, corrAfter}
-use Rattle.sweep.proofs.Sweeps.{acc-stays, corr-stays, rest-all, rest-back}
+use mathlib.Core.Path.{_≡_, refl, sym, _∙_}
+use native.Mathlib.Omega.{arith}
+use Prim.Native.Nat.{_≤_, _-_}
+use lib.ListN.{length, drop, length-set}
+use Rattle.raster.proofs.Tallies.{parts-held}
+use Rattle.sweep.proofs.Sweeps.{Midway, start, turn, end-acc, end-corr}
 use borrow.Author.Needs.{needs}
 use Rattle.sweep.proofs.sweep_row.Statement.{statement}
 use Rattle.sweep.proofs.sweep_row.Tie as tie
 
-returns : tie.Need-returns
-returns c =
-    let passed = c .before .before in
-    let tested = passed .before .before in
-    let none = tested .before in
-    let a = none .before .before .before .before .args in
-    let cells = sanitisedRow (a .nodata) (a .row .now) in
-    let e : min (length (a .acc .now)) (length (a .corr .now)) ≡ 0 = sym (none .shorter .ensures) ∙ tested .if1 .taken in (
-      passed .pass-by .ensures .0,
-      passed .pass-by .ensures .1,
-      acc-stays cells (a .acc .now) (a .corr .now) e,
-      corr-stays cells (a .acc .now) (a .corr .now) e,
-      passed .pass-by .ensures .2,
+abbrev Inv-loop : tie.InvT-loop
+Inv-loop acc₀ corr₀ row₀ nodata digest n s₀ i₀ acc corr row s i =
+    (length acc ≡ length acc₀)
+    × (length corr ≡ length corr₀)
+    × (length row ≡ length row₀)
+    × (i ≤ n)
+    × Midway nodata digest row₀ acc₀ corr₀ acc corr row s i
+
+abbrev μ-loop : tie.MeasureT-loop
+μ-loop acc₀ corr₀ row₀ nodata digest n s₀ i₀ acc corr row s i = n - i
+
+loop-holds : tie.Need-loop-holds Inv-loop μ-loop
+loop-holds c = (refl, refl, refl, search needs, start _ _ _ _ _ _ (c .none .ensures))
+
+loop-again : tie.Need-loop-again Inv-loop μ-loop
+loop-again c =
+    let cell = c .before in
+    let u = cell .before .before .before .before .before in
+    let l = u .loop in (
+      simp length-set (l .inv .0),
+      simp length-set (l .inv .1),
+      simp length-set (l .inv .2),
+      search needs,
+      turn _ (l .row) (l .acc) (l .corr) (l .s) (l .i) (omega arith) _ _ _ _ (cell .sweep-cell .result) (cell .sweep-cell .ensures)
+          (omega arith) (omega arith) (omega arith) (l .inv .4),
     )
 
-returns-2 : tie.Need-returns-2
-unfolding accAfter corrAfter
-returns-2 c =
-    let back = c .before .before .before .before .before in
-    let place = back .before in
-    let swept = place in
-    let a = swept .before .before .before .before .before .before .before .before .before .args in
-    let acc = a .acc .now in
-    let corr = a .corr .now in (
-      swept .sweep .ensures .0,
-      swept .sweep .ensures .1,
-      rest-back 1 acc (swept .sweep .last .0) ∙ rw (swept .sweep .ensures .2, rest-all 1 acc, rest-all 1 corr),
-      rest-back 1 corr (swept .sweep .last .1 .0) ∙ rw (swept .sweep .ensures .3, rest-all 1 acc, rest-all 1 corr),
-      swept .sweep .ensures .4,
+returns : tie.Need-returns Inv-loop μ-loop
+returns c =
+    let done = c .before .before in
+    let u = done .before .before .before in
+    let first = u .before .before .before .before .before .before in
+    let a = first .args in
+    let l = u .loop in
+    let m = l .inv .4 in
+    let e = done .finish .ensures in (
+      e .0 ∙ m .digests,
+      parts-held (a .nodata) (l .s .tallies) _ _ (drop (l .i) (l .row)) (a .row .now) (omega (arith, first .good .1 .1 .0)) (m .tallies) refl (e .1),
+      sym (end-acc (a .nodata) (l .s) (l .row) (l .acc) (l .corr) (l .i) (omega arith)) ∙ m .sums,
+      sym (end-corr (a .nodata) (l .s) (l .row) (l .acc) (l .corr) (l .i) (omega arith)) ∙ m .corrections,
+      e .2 ∙ m .clean,
     )
 
 pub sweep-row-spec : {M : Type 1} → statement M
 sweep-row-spec =
     tie.close
-    (tie.spec (λ c κs. search needs) (λ c κs. search needs) (λ c. search needs) returns
-    (λ c. search needs) (λ c. search needs) (λ c. search needs) (λ c. search needs) (λ c. search needs) (λ c. search needs)
-    (λ c κs. search needs) (λ c. search needs) (λ c. search needs) (λ c. search needs) returns-2)
+    (tie.spec Inv-loop μ-loop
+    (λ c κs. search needs) (λ c κs. search needs) loop-holds
+    (λ c. search needs) (λ c. search needs) (λ c. search needs) (λ c. search needs) (λ c. search needs) (λ c. search needs) (λ c. search needs)
+    (λ c κs. search needs) (λ c. search needs) (λ c. search needs) (λ c. search needs) (λ c. search needs)
+    (λ c. search needs) (λ c. search needs) (λ c. search needs) loop-again
+    (λ c κs. search needs) (λ c. search needs) (λ c. search needs) (λ c. search needs) returns)
