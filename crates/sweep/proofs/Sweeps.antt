@@ -14,7 +14,7 @@ use Rattle.raster.specs.Raster.{kindOf, sanitised, sanitisedRow, noTallies, tal
 use Rattle.raster.specs.declared.CellTallies.{CellTallies}
 use Rattle.raster.proofs.Tallies.{talliesFrom, one-more, tallies-held}
 use Rattle.raster.proofs.Turn.{mapFrom, map-turn, tallies-turn}
-use Rattle.sweep.specs.declared.Sofar.{Sofar}
+use Rattle.sweep.specs.declared.Carry.{Carry}
 use Rattle.sweep.specs.declared.Column.{Column}
 use Rattle.sweep.specs.Sweep.{sweptAcc, sweptCorr, accAfter, corrAfter}
 use Rattle.sweep.specs.private.Cell.{swept}
@@ -22,14 +22,14 @@ use Rattle.sweep.specs.private.Cell.{swept}
 -- ---- a turn of the sweep
 
 -- the columns below j as they are, and the rest as the sweep of the cells from i on, sanitised, leaves it
-abbrev fromAcc : ℕ → Sofar → List ℕ → List Float → List Float → ℕ → ℕ → List Float
+abbrev fromAcc : ℕ → Carry → List ℕ → List Float → List Float → ℕ → ℕ → List Float
 fromAcc nodata s row acc corr i j = take j acc ++ sweptAcc (s .prefix) (s .corr) (sanitisedRow nodata (drop i row)) (drop j acc) (drop j corr)
 
-abbrev fromCorr : ℕ → Sofar → List ℕ → List Float → List Float → ℕ → ℕ → List Float
+abbrev fromCorr : ℕ → Carry → List ℕ → List Float → List Float → ℕ → ℕ → List Float
 fromCorr nodata s row acc corr i j = take j corr ++ sweptCorr (s .prefix) (s .corr) (sanitisedRow nodata (drop i row)) (drop j acc) (drop j corr)
 
 -- what is done, then what becomes of the rest, is what becomes of the whole
-pub record Midway (nodata digest : ℕ) (row₀ : List ℕ) (acc₀ corr₀ : List Float) (acc corr : List Float) (row : List ℕ) (s : Sofar) (i : ℕ) : Type 0 where
+pub record Midway (nodata digest : ℕ) (row₀ : List ℕ) (acc₀ corr₀ : List Float) (acc corr : List Float) (row : List ℕ) (s : Carry) (i : ℕ) : Type 0 where
   cells : cellsOf (s .tallies) ≡ i
   pub sums : fromAcc nodata s row acc corr i (i + 1) ≡ accAfter (sanitisedRow nodata row₀) acc₀ corr₀
   pub corrections : fromCorr nodata s row acc corr i (i + 1) ≡ corrAfter (sanitisedRow nodata row₀) acc₀ corr₀
@@ -42,15 +42,15 @@ pub start : (nodata digest : ℕ) (row : List ℕ) (acc corr : List Float) (t : 
 unfolding accAfter corrAfter
 start nodata digest row acc corr t e = rw e (record { cells = refl; sums = refl; corrections = refl; clean = refl; tallies = refl; digests = refl })
 
-module _ (nodata : ℕ) (row : List ℕ) (acc corr : List Float) (s : Sofar) (i : ℕ) (r : i < length row) where
+module _ (nodata : ℕ) (row : List ℕ) (acc corr : List Float) (s : Carry) (i : ℕ) (r : i < length row) where
   -- a column swept with cell i
   abbrev cell : ℕ → Column
   cell j = swept nodata s (getD row i 0) (getD acc j nan) (getD corr j nan)
 
   module _ (j : ℕ) (a : j < length acc) (c : j < length corr) where
-    turn-sums : (fromAcc nodata (cell j .sofar) (set row i (cell j .cell)) (set acc j (cell j .acc)) (set corr j (cell j .corr)) (i + 1) (j + 1)
+    turn-sums : (fromAcc nodata (cell j .carry) (set row i (cell j .cell)) (set acc j (cell j .acc)) (set corr j (cell j .corr)) (i + 1) (j + 1)
         ≡ fromAcc nodata s row acc corr i j)
-        × (fromCorr nodata (cell j .sofar) (set row i (cell j .cell)) (set acc j (cell j .acc)) (set corr j (cell j .corr)) (i + 1) (j + 1)
+        × (fromCorr nodata (cell j .carry) (set row i (cell j .cell)) (set acc j (cell j .acc)) (set corr j (cell j .corr)) (i + 1) (j + 1)
         ≡ fromCorr nodata s row acc corr i j)
     unfolding swept
     turn-sums =
@@ -76,7 +76,7 @@ module _ (nodata : ℕ) (row : List ℕ) (acc corr : List Float) (s : Sofar) (i 
   pub turn : (digest : ℕ) (row₀ : List ℕ) (acc₀ corr₀ : List Float) (col : Column) → col ≡ cell (i + 1)
       → i + 1 < length acc → i + 1 < length corr → i < 0xffff_ffff_ffff_ffff
       → Midway nodata digest row₀ acc₀ corr₀ acc corr row s i
-      → Midway nodata digest row₀ acc₀ corr₀ (set acc (i + 1) (col .acc)) (set corr (i + 1) (col .corr)) (set row i (col .cell)) (col .sofar) (i + 1)
+      → Midway nodata digest row₀ acc₀ corr₀ (set acc (i + 1) (col .acc)) (set corr (i + 1) (col .corr)) (set row i (col .cell)) (col .carry) (i + 1)
   unfolding swept
   turn digest row₀ acc₀ corr₀ col e a c b m =
       let one = one-more (s .tallies) (kindOf nodata (getD row i 0)) in
@@ -111,7 +111,7 @@ none-above : (r m i : ℕ) → min r (m - 1) ≤ i → min (r - i) (m - (i + 1))
 none-above r m i h = omega arith
 
 -- the sweep ends where the row or the columns do
-module _ (nodata : ℕ) (s : Sofar) (row : List ℕ) (acc corr : List Float) (i : ℕ) (r : min (length row) (min (length acc) (length corr) - 1) ≤ i) where
+module _ (nodata : ℕ) (s : Carry) (row : List ℕ) (acc corr : List Float) (i : ℕ) (r : min (length row) (min (length acc) (length corr) - 1) ≤ i) where
   none-left : min (length (sanitisedRow nodata (drop i row))) (min (length (drop (i + 1) acc)) (length (drop (i + 1) corr))) ≡ 0
   none-left =
       rw (

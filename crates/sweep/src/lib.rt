@@ -16,20 +16,20 @@ pub struct Swept {
     pub tallies: CellTallies,
 }
 
-// A row so far: its running prefix with its correction, the digest, and the tallies.
-struct Sofar {
+// What a row carries from cell to cell: its running prefix with its correction, the digest, the tallies.
+struct Carry {
     prefix: f64,
     corr: f64,
     digest: u64,
     tallies: CellTallies,
 }
 
-// A column after a cell, the cell as sanitised, and the row so far.
+// A column after a cell, the cell as sanitised, and what the row carries on.
 struct Column {
     acc: f64,
     corr: f64,
     cell: u32,
-    sofar: Sofar,
+    carry: Carry,
 }
 
 // A sum with its correction takes in x. What the sum leaves out is put back in each time, so a column's sum can be
@@ -43,7 +43,7 @@ fn take_in(sum: f64, corr: f64, x: f64) -> TwoSum
 
 // One cell is sanitised, tallied and goes into the digest; the row's prefix takes it in, then the column takes in the
 // prefix. The sums wait for each other, and all the rest runs meanwhile.
-fn sweep_cell(s: Sofar, bits: u32, nodata: u32, acc: f64, corr: f64) -> Column
+fn sweep_cell(s: Carry, bits: u32, nodata: u32, acc: f64, corr: f64) -> Column
     ensures { λ r. ⌜ r ≡ swept nodata s bits acc corr ⌝ }
 {
     let kind = raster::classify(bits, nodata);
@@ -54,7 +54,7 @@ fn sweep_cell(s: Sofar, bits: u32, nodata: u32, acc: f64, corr: f64) -> Column
         acc: q.sum,
         corr: q.dropped,
         cell,
-        sofar: Sofar {
+        carry: Carry {
             prefix: p.sum,
             corr: p.dropped,
             digest: digest::mix(s.digest, cell),
@@ -93,7 +93,7 @@ fn pass_by(row: &mut [u32], nodata: u32, digest: u64) -> Swept
 }
 
 // The cells from i on have no column.
-fn finish(row: &mut [u32], i: usize, nodata: u32, s: Sofar) -> Swept
+fn finish(row: &mut [u32], i: usize, nodata: u32, s: Carry) -> Swept
     requires { ⌜ i ≤ length (now row) ⌝ }
     ensures { λ r. ⌜ (r .digest ≡ digestOf (s .digest) (sanitisedRow nodata (drop i (now (row .entry)))))
         × (r .tallies ≡ heldTallies (plusTallies (s .tallies) (rowTallies nodata (drop i (now (row .entry))))))
@@ -120,7 +120,7 @@ pub fn sweep_row(
         × (now (row .exit) ≡ sanitisedRow nodata (now (row .entry))) ⌝ }
 {
     let n = columns(acc.len(), corr.len(), row.len());
-    let mut s = Sofar {
+    let mut s = Carry {
         prefix: 0.0,
         corr: 0.0,
         digest,
@@ -133,7 +133,7 @@ pub fn sweep_row(
         row[i] = c.cell;
         acc[j] = c.acc;
         corr[j] = c.corr;
-        s = c.sofar;
+        s = c.carry;
         i = j;
     }
     finish(row, i, nodata, s)

@@ -4,11 +4,11 @@ use lib.Ieee.{Float}
 use Rattle.digest.specs.Digest.{mixed}
 use Rattle.raster.specs.Raster.{cellValue, kindOf, sanitised, tallied, heldTallies}
 use Rattle.sweep.specs.Sweep.{takenIn}
-use Rattle.sweep.specs.declared.Sofar.{Sofar}
+use Rattle.sweep.specs.declared.Carry.{Carry}
 use Rattle.sweep.specs.declared.Column.{Column}
 
 -- the row's prefix takes in the cell of those bits, sanitised, then the column's sum and correction take in the prefix; digest and tallies have a cell more
-unfoldable pub swept : ℕ → Sofar → ℕ → Float → Float → Column
+unfoldable pub swept : ℕ → Carry → ℕ → Float → Float → Column
 swept nodata s bits acc corr =
     let x = sanitised nodata bits in
     let p = takenIn (s .prefix) (s .corr) (cellValue x) in
@@ -17,7 +17,7 @@ swept nodata s bits acc corr =
       acc = q .sum;
       corr = q .dropped;
       cell = x;
-      sofar = record {
+      carry = record {
         prefix = p .sum;
         corr = p .dropped;
         digest = mixed (s .digest) x;
