@@ -27,18 +27,16 @@ fn with_columns(grid: Grid, window: Window, rows: RowBand) -> ExtentAnswer
         return ExtentAnswer::Extent(rows, ColSpan::FullTurn);
     }
     let first = cell(grid, window.north, window.west);
-    match first {
-        CellAnswer::Refused(n) => ExtentAnswer::Refused(n),
-        CellAnswer::Cell(_, west) => {
-            let last = cell(grid, window.north, window.east);
-            match last {
-                CellAnswer::Refused(n) => ExtentAnswer::Refused(n),
-                CellAnswer::Cell(_, east) => {
-                    ExtentAnswer::Extent(rows, ColSpan::Through { west, east })
-                }
-            }
-        }
-    }
+    let west = match first {
+        CellAnswer::Refused(n) => return ExtentAnswer::Refused(n),
+        CellAnswer::Cell(_, col) => col,
+    };
+    let last = cell(grid, window.north, window.east);
+    let east = match last {
+        CellAnswer::Refused(n) => return ExtentAnswer::Refused(n),
+        CellAnswer::Cell(_, col) => col,
+    };
+    ExtentAnswer::Extent(rows, ColSpan::Through { west, east })
 }
 
 impl Table {
@@ -63,17 +61,15 @@ impl Table {
     {
         let grid = self.grid;
         let first = cell(grid, window.north, grid.lon);
-        match first {
-            CellAnswer::Refused(n) => ExtentAnswer::Refused(n),
-            CellAnswer::Cell(north, _) => {
-                let last = cell(grid, window.south, grid.lon);
-                match last {
-                    CellAnswer::Refused(n) => ExtentAnswer::Refused(n),
-                    CellAnswer::Cell(south, _) => {
-                        with_columns(grid, window, RowBand::new(north, south))
-                    }
-                }
-            }
-        }
+        let north = match first {
+            CellAnswer::Refused(n) => return ExtentAnswer::Refused(n),
+            CellAnswer::Cell(row, _) => row,
+        };
+        let last = cell(grid, window.south, grid.lon);
+        let south = match last {
+            CellAnswer::Refused(n) => return ExtentAnswer::Refused(n),
+            CellAnswer::Cell(row, _) => row,
+        };
+        with_columns(grid, window, RowBand::new(north, south))
     }
 }

@@ -40,5 +40,5 @@ returns-3 c =
 pub covering-spec : {M : Type 1} → statement M
 covering-spec =
     tie.close
-    (tie.spec (λ c κs. search needs) (λ c. search needs) (λ c. search needs) (λ c κs. search needs) (λ c. search needs)
-    (λ c. search needs) (λ c κs. search needs) (λ c κs. search needs) returns returns-2 returns-3)
+    (tie.spec (λ c κs. search needs) (λ c. search needs) returns (λ c. search needs) (λ c κs. search needs) (λ c. search needs) returns-2
+    (λ c. search needs) (λ c κs. search needs) (λ c κs. search needs) returns-3)

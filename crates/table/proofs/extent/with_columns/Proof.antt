@@ -42,5 +42,5 @@ returns-4 c =
 pub with-columns-spec : {M : Type 1} → statement M
 with-columns-spec =
     tie.close
-    (tie.spec returns (λ c κs. search needs) (λ c. search needs) (λ c. search needs) (λ c κs. search needs) (λ c. search needs)
-    (λ c. search needs) returns-2 returns-3 returns-4)
+    (tie.spec returns (λ c κs. search needs) (λ c. search needs) returns-2 (λ c. search needs) (λ c κs. search needs) (λ c. search needs) returns-3
+    (λ c. search needs) returns-4)
