@@ -32,22 +32,21 @@ impl Builder {
         ensures { λ r. ⌜ builderOutcome r ≡ outcome (startRefusal source factor lent) (firstBuilder source factor nodata) ⌝ }
     {
         let made = Decimation::new(source, factor);
-        match made {
-            DecimationAnswer::Made(d) => {
-                let n = lent_refusal(d, lent, refusal::PASSED);
-                if n != refusal::PASSED {
-                    return BuilderAnswer::Refused(n);
-                }
-                BuilderAnswer::Accepted(Builder {
-                    decimation: d,
-                    nodata,
-                    rows: 0,
-                    digest: digest::FNV_OFFSET_BASIS,
-                    tallies: CellTallies::none(),
-                })
-            }
-            DecimationAnswer::Refused(n) => BuilderAnswer::Refused(n),
+        let d = match made {
+            DecimationAnswer::Refused(n) => return BuilderAnswer::Refused(n),
+            DecimationAnswer::Made(d) => d,
+        };
+        let n = lent_refusal(d, lent, refusal::PASSED);
+        if n != refusal::PASSED {
+            return BuilderAnswer::Refused(n);
         }
+        BuilderAnswer::Accepted(Builder {
+            decimation: d,
+            nodata,
+            rows: 0,
+            digest: digest::FNV_OFFSET_BASIS,
+            tallies: CellTallies::none(),
+        })
     }
 
     // The first table row is the accumulator's zeros: the padding that lets a rectangle at the north edge subtract four
