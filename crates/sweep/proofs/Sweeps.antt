@@ -6,7 +6,7 @@ use native.Mathlib.Nat.{le-refl}
 use native.Mathlib.Numerals.{add-one}
 use native.Mathlib.Omega.{arith}
 use lib.ListN.{length, take, drop, set, getD, length-append, length-drop, length-map, take-append-drop, drop-of-length-le}
-use lib.Seq.{drop-cons, take-suc-set, drop-set-lt, append-snoc, take-all}
+use lib.Seq.{drop-cons, take-suc-set, drop-set-lt, append-snoc, take-all, drop-at, length-take-le}
 use lib.Ieee.{Float, nan}
 use Rattle.float.specs.Float.{f64zero}
 use Rattle.digest.specs.Digest.{mixed, digestOf}
@@ -134,10 +134,14 @@ module _ {A : Type 0} (i : ℕ) (l : List A) where
   pub rest-all : take (length l - i) (drop i l) ≡ drop i l
   rest-all = take-all (length l - i) (drop i l) (omega (arith, length-drop i l))
 
-  pub rest-back : (e : List A) → take i l ++ (e ++ drop (length l - i) (drop i l)) ≡ take i l ++ e
-  rest-back e =
+  pub rest-back : (e ys : List A) → e ≡ ys → take i l ++ (e ++ drop (length l - i) (drop i l)) ≡ take i l ++ ys
+  rest-back e ys q =
       let h : length (drop i l) ≤ length l - i = omega (arith, length-drop i l) in
-      rw (drop-of-length-le (drop i l) h, append-nil)
+      rw (drop-of-length-le (drop i l) h, append-nil, q)
+
+  -- and lent again
+  pub rest-again : (l' ys : List A) → i ≤ length l → l' ≡ take i l ++ ys → take (length l' - i) (drop i l') ≡ ys
+  rest-again l' ys h e = take-all (length l' - i) (drop i l') (omega (arith, length-drop i l')) ∙ rw e (drop-at (take i l) ys i (length-take-le i l h))
 
 -- ---- lengths
 

@@ -80,29 +80,17 @@ fn columns(acc: usize, corr: usize, row: usize) -> usize
     shorter(row, n - 1)
 }
 
-// Cells that have no column are sanitised, tallied and go into the digest.
-fn pass_by(row: &mut [u32], nodata: u32, digest: u64) -> Swept
-    ensures { λ r. ⌜ (r .digest ≡ digestOf digest (sanitisedRow nodata (now (row .entry)))) × (r .tallies ≡ rowTallies nodata (now (row .entry)))
-        × (now (row .exit) ≡ sanitisedRow nodata (now (row .entry))) ⌝ }
-{
-    let tallies = raster::sanitise_row(row, nodata);
-    Swept {
-        digest: digest::digest_row(digest, row),
-        tallies,
-    }
-}
-
-// The cells from i on have no column.
+// The cells from i on have no column: they are sanitised, tallied and go into the digest.
 fn finish(row: &mut [u32], i: usize, nodata: u32, s: Carry) -> Swept
     requires { ⌜ i ≤ length (now row) ⌝ }
     ensures { λ r. ⌜ (r .digest ≡ digestOf (s .digest) (sanitisedRow nodata (drop i (now (row .entry)))))
         × (r .tallies ≡ heldTallies (plusTallies (s .tallies) (rowTallies nodata (drop i (now (row .entry))))))
         × (now (row .exit) ≡ take i (now (row .entry)) ++ sanitisedRow nodata (drop i (now (row .entry)))) ⌝ }
 {
-    let rest = pass_by(&mut row[i..], nodata, s.digest);
+    let tallies = raster::sanitise_row(&mut row[i..], nodata);
     Swept {
-        digest: rest.digest,
-        tallies: s.tallies.plus(rest.tallies),
+        digest: digest::digest_row(s.digest, &row[i..]),
+        tallies: s.tallies.plus(tallies),
     }
 }
 
