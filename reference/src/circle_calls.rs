@@ -1,54 +1,45 @@
 // Calls 70 and 80: kernels and circles.
-use crate::calls::{given, list, number, one, two, Answer, LONGEST, UNKNOWN};
+use crate::calls::{given, number, one, six, two, Answer};
 use crate::grid::{Col, Row};
 use crate::grid_calls::grid;
 use crate::refusals::{self, KernelFields};
-use crate::words::Words;
+use crate::words::{lent, list, Arguments};
 
-/// Entry i of a lent slice of half-widths: the low half of the fill, plus i modulo 2^32.
-fn filled(fill: u64, length: u64) -> Vec<u32> {
-    (0..length).map(|i| (fill as u32).wrapping_add(i as u32)).collect()
+/// A list of half-widths.
+fn halves(call: &[u64], k: usize) -> Vec<u32> {
+    lent(call, k).iter().map(|&half| half as u32).collect()
 }
 
-pub fn kernel<W: Words>(words: &mut W) -> Option<Answer> {
-    let g = grid(words)?;
-    let (centre, km) = (Row(words.next()? as u32), words.float()?);
-    let (length, fill) = (words.next()?, words.next()?);
-    if length > LONGEST {
-        return Some(one(UNKNOWN));
-    }
-    let mut half_widths = filled(fill, length);
+/// The half-widths as they are left follow the answer.
+pub fn kernel(call: &[u64]) -> Answer {
+    let words = &mut Arguments(list(call, 0));
+    let (g, centre, km) = (grid(words), Row(words.next() as u32), words.float());
+    let mut half_widths = halves(call, 1);
     let made = given(refusals::new_kernel(g, centre, km, &mut half_widths), |kernel| {
         two(u64::from(kernel.north.get()), u64::from(kernel.count))
     });
-    Some([made, half_widths.into_iter().map(u64::from).collect()].concat())
+    [six(made), half_widths.into_iter().map(u64::from).collect()].concat()
 }
 
 /// Circles of one table and one kernel, around several columns.
-pub fn circle<W: Words>(words: &mut W) -> Option<Answer> {
-    let g = grid(words)?;
-    let Some(cells) = list(words)? else {
-        return Some(one(UNKNOWN));
-    };
-    let cells: Vec<f64> = cells.into_iter().map(f64::from_bits).collect();
+pub fn circles(call: &[u64]) -> Answer {
+    let words = &mut Arguments(list(call, 0));
+    let g = grid(words);
     let kernel = KernelFields {
-        grid: grid(words)?,
-        centre: words.next()? as u32,
-        km: words.float()?,
-        north: words.next()? as u32,
-        count: words.next()? as u32,
+        grid: grid(words),
+        centre: words.next() as u32,
+        km: words.float(),
+        north: words.next() as u32,
+        count: words.next() as u32,
     };
-    let Some(half_widths) = list(words)? else {
-        return Some(one(UNKNOWN));
-    };
-    let half_widths: Vec<u32> = half_widths.into_iter().map(|h| h as u32).collect();
-    let Some(columns) = list(words)? else {
-        return Some(one(UNKNOWN));
-    };
-    let mut answer = one(columns.len() as u64);
-    for column in columns {
-        let column = Col(column as u32);
-        answer.extend(given(refusals::circle_population(&g, &cells, kernel, &half_widths, column), number));
+    let cells: Vec<f64> = lent(call, 1).iter().map(|&bits| f64::from_bits(bits)).collect();
+    let half_widths = halves(call, 2);
+    let questions = list(call, 3).chunks_exact(5);
+    let mut answer = one(questions.len() as u64);
+    for question in questions {
+        let column = Col(question[0] as u32);
+        let people = refusals::circle_population(&g, &cells, kernel, &half_widths, column);
+        answer.extend(six(given(people, number)));
     }
-    Some(answer)
+    answer
 }

@@ -1,7 +1,7 @@
 // Lists of calls. Each call depends on the seed and its own number alone, so that a long list can be made in parts.
-use crate::calls::LONGEST;
 pub use crate::random::Random;
 use crate::table::FNV_OFFSET_BASIS;
+use crate::words::listed;
 use std::f64::consts::PI;
 use std::ops::RangeInclusive;
 
@@ -244,17 +244,16 @@ impl Random {
         }
     }
 
-    /// A digest, a length and that many cells; seldom a long row.
+    /// A digest and a row's cells; seldom a long row.
     pub fn row(&mut self) -> Vec<u64> {
         let digest = if self.below(2) == 0 { FNV_OFFSET_BASIS } else { self.word() };
         let length = match self.below(256) {
-            0 => LONGEST - self.below(2),
+            0 => 8192 - self.below(2),
             1 => self.below(1000),
             _ => self.below(16),
         };
-        let mut words = vec![digest, length];
-        words.extend((0..length).map(|_| self.half()));
-        words
+        let row: Vec<u64> = (0..length).map(|_| self.half()).collect();
+        listed(&[&[digest], &row])
     }
 
     pub fn points(&mut self) -> [f64; 4] {
@@ -356,12 +355,15 @@ pub fn numbers_of(module: &str) -> Option<Vec<u64>> {
     Some(numbers).filter(|numbers| !numbers.is_empty())
 }
 
-/// Call `index` of a seed's list, of one of the numbers given.
-pub fn call(seed: u64, index: u64, numbers: &[u64]) -> Vec<u64> {
+/// Call `index` of a seed's list, of one of the numbers given; 50 is a whole build, of several calls.
+pub fn calls(seed: u64, index: u64, numbers: &[u64]) -> Vec<Vec<u64>> {
     let start = Random(seed).word();
     let mut random = Random(start.wrapping_add(index.wrapping_mul(0xd1b5_4a32_d192_ed03)));
     let number = numbers[random.below(numbers.len() as u64) as usize];
-    call_of(number, &mut random)
+    if number == 0x50 {
+        return random.build();
+    }
+    vec![call_of(number, &mut random)]
 }
 
 fn call_of(number: u64, random: &mut Random) -> Vec<u64> {
@@ -386,7 +388,6 @@ fn call_of(number: u64, random: &mut Random) -> Vec<u64> {
         0x2e => bits([random.latitude(), random.latitude(), random.longitude()]),
         0x30..=0x3c => random.grid_call(number),
         0x40 => random.raster_row(),
-        0x50 => random.build(),
         0x60 => random.rectangles(),
         0x61 | 0x62 => random.window(number),
         0x70 => random.kernel(),

@@ -1,14 +1,15 @@
-// Arguments of the calls on rows, builds, rectangles, kernels and circles.
+// Arguments of the calls on rows, rectangles, kernels and circles.
 use crate::generate::{Random, HALVES};
 use crate::generate_grids::grid_words;
 use crate::geodesy::{great_circle_km, LatLon};
 use crate::grid::{Grid, Row};
 use crate::refusals::{self, KernelFields};
-use crate::table::{padded_len, Buffers, Decimation};
+use crate::table::{padded_len, Buffers};
+use crate::words::listed;
 
 /// What a raster's cells are drawn from.
 #[derive(Clone, Copy)]
-enum Cells {
+pub enum Cells {
     Whole,
     Large,
     Fractions,
@@ -19,7 +20,7 @@ enum Cells {
 impl Random {
     // ---- rows
 
-    fn nodata(&mut self) -> u64 {
+    pub fn nodata(&mut self) -> u64 {
         match self.below(4) {
             0 => HALVES[self.below(18) as usize],
             1 => {
@@ -68,15 +69,15 @@ impl Random {
         }
     }
 
-    fn cells(&mut self) -> Cells {
+    pub fn cells(&mut self) -> Cells {
         self.pick(&[Cells::Whole, Cells::Large, Cells::Fractions, Cells::Mixed, Cells::Mixed, Cells::Any])
     }
 
-    fn row_of(&mut self, cells: Cells, nodata: u64, length: u64) -> Vec<u64> {
+    pub fn row_of(&mut self, cells: Cells, nodata: u64, length: u64) -> Vec<u64> {
         (0..length).map(|_| self.cell(cells, nodata)).collect()
     }
 
-    /// The mark, the row's length and its cells; seldom a long row.
+    /// The mark, and the row's cells; seldom a long row, or one that is too long.
     pub fn raster_row(&mut self) -> Vec<u64> {
         let nodata = self.nodata();
         let length = match self.below(512) {
@@ -85,156 +86,7 @@ impl Random {
             2..=9 => self.below(600),
             _ => self.below(24),
         };
-        let mut words = vec![nodata, length];
-        if length <= 8192 {
-            words.extend(self.row_of(Cells::Any, nodata, length));
-        }
-        words
-    }
-
-    // ---- builds
-
-    /// A source grid and a factor, which most often divides both of its dimensions.
-    fn source(&mut self) -> (Grid, u64) {
-        let factor = if self.chance(3) { 1 } else { 1 + self.below(12) };
-        let (columns, rows) = (1 + self.below(40 / factor), 1 + self.below(24 / factor));
-        let mut size = [columns * factor, rows * factor];
-        if self.chance(8) {
-            size = [1 + self.below(40), 1 + self.below(24)];
-        }
-        let mut g = self.made_grid(size[0] as u32, size[1] as u32);
-        if self.chance(16) {
-            self.spoil(&mut g);
-        }
-        let factor = if self.chance(16) { self.pick(&[0, 2, 3, 0xffff_ffff, 1 << 32 | 1]) } else { factor };
-        (g, factor)
-    }
-
-    /// The first words of the lent buffers.
-    fn fill(&mut self) -> u64 {
-        match self.below(4) {
-            0 => self.pick(&[0, 0x3ff0_0000_0000_0000, 0x7ff0_0000_0000_0000 - 3, 0x7ff8_0000_0000_0000]),
-            _ => self.word(),
-        }
-    }
-
-    /// The lengths that a build asks, or others.
-    fn lengths(&mut self, g: &Grid, coarse: &Grid) -> [u64; 4] {
-        let wide = u64::from(g.width).min(4000) + 1;
-        let table = padded_len(coarse) as u64;
-        let mut lengths = [wide, wide, u64::from(coarse.width).min(4000) + 1, table.min(8192)];
-        if self.chance(12) {
-            let which = self.below(4) as usize;
-            lengths[which] = match self.below(4) {
-                0 => lengths[which] + 1,
-                1 => lengths[which] - 1,
-                2 => self.below(100),
-                _ => 0,
-            };
-        }
-        lengths
-    }
-
-    /// A field of the builder, and a word for it that its maker may not have put there.
-    fn forgery(&mut self, g: &Grid) -> Vec<u64> {
-        let field = self.below(21);
-        let mut other = *g;
-        self.spoil(&mut other);
-        let spoilt = grid_words(&other);
-        let word = match field {
-            0..=11 => match self.below(4) {
-                0 => spoilt[field as usize % 6],
-                1 => grid_words(g)[field as usize % 6] ^ 1 << 63,
-                2 => grid_words(g)[field as usize % 6] + 1,
-                _ => self.word(),
-            },
-            12 => self.below(13),
-            14 => self.below(u64::from(g.height) + 3),
-            16..=19 => match self.below(4) {
-                0 => u64::MAX - self.below(2),
-                1 => 1 << 63,
-                _ => self.below(u64::from(g.width) * 3 + 1),
-            },
-            _ => self.word(),
-        };
-        vec![3, field, word]
-    }
-
-    /// The same builder with other rows, which a maker could give: the tallies add up.
-    fn jump(&mut self, g: &Grid) -> Vec<u64> {
-        let rows = self.below(u64::from(g.height) + 1);
-        let cells = rows * u64::from(g.width);
-        let nodata = self.below(cells + 1);
-        [[3, 14, rows], [3, 16, nodata], [3, 17, cells - nodata], [3, 18, 0], [3, 19, 0]].concat()
-    }
-
-    /// One row call, with the length that is asked or another.
-    fn row_call(&mut self, g: &Grid, cells: Cells, nodata: u64) -> Vec<u64> {
-        let width = u64::from(g.width).min(300);
-        let length = if self.chance(16) {
-            self.pick(&[0, 1, width.saturating_sub(1), width + 1, 2 * width])
-        } else {
-            width
-        };
-        [vec![1, length], self.row_of(cells, nodata, length)].concat()
-    }
-
-    /// Operations: a start, the rows with other calls among them, a finish, and what comes after it.
-    pub fn build(&mut self) -> Vec<u64> {
-        let (g, factor) = self.source();
-        let made = Decimation::new(g, factor as u32).ok();
-        let coarse = made.map_or(g, |d| d.grid);
-        let mut words = grid_words(&g);
-        words.push(self.fill());
-        words.extend(self.lengths(&g, &coarse));
-        let (nodata, cells) = (self.nodata(), self.cells());
-        let restore: Vec<u64> = (0..12)
-            .flat_map(|field| {
-                let both = [grid_words(&g), grid_words(&coarse)].concat();
-                vec![3, field, both[field as usize]]
-            })
-            .collect();
-        let mut operations = if self.chance(32) { vec![] } else { vec![0, factor, nodata] };
-        let rows = u64::from(g.height).min(24);
-        for _ in 0..rows {
-            match self.below(48) {
-                0 => operations.push(2),
-                1 => {
-                    operations.extend(self.forgery(&g));
-                    operations.extend(self.row_call(&g, cells, nodata));
-                    operations.push(2);
-                    operations.extend(&restore);
-                    operations.extend([3, 12, factor]);
-                }
-                2 => operations.extend(self.jump(&g)),
-                3 => operations.extend([0, factor, nodata]),
-                4 => operations.push(4 + self.below(3)),
-                _ => {}
-            }
-            operations.extend(self.row_call(&g, cells, nodata));
-        }
-        for _ in 0..self.below(3) {
-            operations.extend(self.row_call(&g, cells, nodata));
-        }
-        for _ in 0..self.below(4) {
-            match self.below(6) {
-                0 => operations.extend(self.row_call(&g, cells, nodata)),
-                1 => operations.extend(self.jump(&g)),
-                2 => operations.extend(self.forgery(&g)),
-                _ => operations.push(2),
-            }
-        }
-        // Words that are not enough for an operation.
-        match self.below(32) {
-            0 => operations.extend([1, 5, 0]),
-            1 => operations.extend([1, u64::MAX]),
-            2 => operations.push(0),
-            _ => {}
-        }
-        operations.truncate(8192);
-        words.push(operations.len() as u64);
-        words.extend(operations);
-        words
+        listed(&[&[nodata], &self.row_of(Cells::Any, nodata, length)])
     }
 
     // ---- tables and rectangles
@@ -313,7 +165,7 @@ impl Random {
         if self.chance(64) {
             questions.pop();
         }
-        listed(grid_words(&g), &[&cells, &questions])
+        listed(&[&grid_words(&g), &cells, &[], &questions])
     }
 
     /// A grid, and in call 62 a window.
@@ -371,7 +223,7 @@ impl Random {
         }
     }
 
-    /// A grid, a centre row and a radius, and the lent slice's length and first entries.
+    /// A grid, a centre row and a radius, and the lent slice.
     pub fn kernel(&mut self) -> Vec<u64> {
         let (width, height) = match self.below(8) {
             0 => (self.size(2000), self.size(400)),
@@ -391,7 +243,10 @@ impl Random {
             2..=4 => height + self.below(4),
             _ => height,
         };
-        [grid_words(&g), vec![row, km.to_bits(), length, self.half()]].concat()
+        // Entry i is at first the low half of the fill, plus i modulo 2^32.
+        let fill = self.half();
+        let slice: Vec<u64> = (0..length).map(|i| u64::from((fill as u32).wrapping_add(i as u32))).collect();
+        listed(&[&[grid_words(&g), vec![row, km.to_bits()]].concat(), &slice])
     }
 
     /// Half-widths and a kernel's fields: of a kernel that is made, or any.
@@ -459,19 +314,10 @@ impl Random {
             self.spoil(&mut g);
         }
         half_widths.truncate(8192);
-        let columns: Vec<u64> = (0..16).map(|_| self.index(width)).collect();
+        let columns: Vec<[u64; 5]> = (0..16).map(|_| [self.index(width), 0, 0, 0, 0]).collect();
         let k =
             [u64::from(kernel.centre), kernel.km.to_bits(), u64::from(kernel.north), u64::from(kernel.count)];
-        let words = listed(grid_words(&g), &[&cells]);
-        listed([words, grid_words(&kernel.grid), k.to_vec()].concat(), &[&half_widths, &columns])
+        let words = [grid_words(&g), grid_words(&kernel.grid), k.to_vec()].concat();
+        listed(&[&words, &cells, &half_widths, &columns.concat()])
     }
-}
-
-/// The words, and after them each list with its length.
-fn listed(mut words: Vec<u64>, lists: &[&[u64]]) -> Vec<u64> {
-    for list in lists {
-        words.push(list.len() as u64);
-        words.extend(*list);
-    }
-    words
 }

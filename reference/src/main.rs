@@ -1,8 +1,10 @@
 // The reference's driver: writes lists of calls and answers them. README.md has the commands.
+mod build_calls;
 mod calls;
 mod circle;
 mod circle_calls;
 mod generate;
+mod generate_builds;
 mod generate_grids;
 mod generate_tables;
 mod geodesy;
@@ -21,7 +23,7 @@ mod words;
 use std::env;
 use std::io::{self, BufReader, BufWriter, Write};
 use std::process::ExitCode;
-use words::{write_line, Reader, Words};
+use words::{write_call, write_line, Reader};
 
 fn main() -> ExitCode {
     let arguments: Vec<String> = env::args().skip(1).collect();
@@ -50,30 +52,26 @@ fn main() -> ExitCode {
 fn answer() -> io::Result<()> {
     let mut calls = Reader(BufReader::with_capacity(1 << 16, io::stdin().lock()));
     let mut out = BufWriter::with_capacity(1 << 16, io::stdout().lock());
-    while let Some(call) = calls.next() {
-        let Some(answer) = calls::answer(call, &mut calls) else {
-            break;
-        };
-        write_line(&mut out, &answer)?;
+    while let Some((number, words)) = calls.call() {
+        write_line(&mut out, &calls::answer(number, &words))?;
     }
     out.flush()
 }
 
-/// The calls of a seed's list from number FROM on; None where the words are no such list.
+/// The calls of a seed's list from number FROM on, where a build is several; None where the words are no such list.
 fn generate(seed: &str, from: &str, count: &str, module: &str) -> Option<io::Result<()>> {
     let (seed, from, count): (u64, u64, u64) = (seed.parse().ok()?, from.parse().ok()?, count.parse().ok()?);
     let (numbers, end) = (generate::numbers_of(module)?, from.checked_add(count)?);
     let mut out = BufWriter::with_capacity(1 << 16, io::stdout().lock());
-    let written =
-        (from..end).try_for_each(|index| write_line(&mut out, &generate::call(seed, index, &numbers)));
-    Some(written.and_then(|()| out.flush()))
+    let mut calls = (from..end).flat_map(|index| generate::calls(seed, index, &numbers));
+    Some(calls.try_for_each(|call| write_call(&mut out, &call)).and_then(|()| out.flush()))
 }
 
 /// The calls of the stored sample.
 fn sample() -> io::Result<()> {
     let mut out = BufWriter::new(io::stdout().lock());
     for call in sample::calls() {
-        write_line(&mut out, &call)?;
+        write_call(&mut out, &call)?;
     }
     out.flush()
 }

@@ -1,7 +1,10 @@
 // The stored sample: every call at the limits, then some of a seed's list.
-use crate::calls::LONGEST;
-use crate::generate::{bits, call, numbers_of, HALVES, LIMITS, NANS};
+use crate::generate::{self, bits, numbers_of, HALVES, LIMITS, NANS};
+use crate::generate_builds::Walk;
+use crate::geodesy::LatLon;
+use crate::grid::Grid;
 use crate::table::FNV_OFFSET_BASIS;
+use crate::words::listed;
 use std::f64::consts::PI;
 
 pub fn calls() -> Vec<Vec<u64>> {
@@ -21,32 +24,34 @@ pub fn calls() -> Vec<Vec<u64>> {
     }
     calls.extend(pairs());
     calls.extend(points());
-    for number in [0, 0xd, 0xf, 0x13, 0x1f, 0x2f, 0x3d, 0x41, 0x51, 0x63, 0x71, 0x81, u64::MAX] {
+    for number in [0, 0xd, 0xf, 0x13, 0x1f, 0x2f, 0x3d, 0x41, 0x53, 0x63, 0x71, 0x81, u64::MAX] {
         calls.push(vec![number]);
     }
-    calls.push(vec![0x12, FNV_OFFSET_BASIS, 0]);
-    calls.push(vec![0x12, FNV_OFFSET_BASIS, LONGEST + 1]);
+    calls.push(of_lists(0x12, &[&[FNV_OFFSET_BASIS], &[]]));
     calls.extend(examples());
     for (module, count, longest) in SEEDED {
         let numbers = numbers_of(module).unwrap_or_default();
-        calls.extend(
-            (0..).map(|index| call(1, index, &numbers)).filter(|call| call.len() <= longest).take(count),
-        );
+        let all = (0..).map(|index| generate::calls(1, index, &numbers));
+        calls.extend(all.filter(|calls| calls.concat().len() <= longest).take(count).flatten());
     }
     calls
 }
 
-/// How many calls of a seed's list, and the most words of one.
+fn of_lists(number: u64, lists: &[&[u64]]) -> Vec<u64> {
+    [vec![number], listed(lists)].concat()
+}
+
+/// How many of a seed's list, and the most words of one.
 const SEEDED: [(&str, usize, usize); 9] = [
     ("float", 200, 60),
     ("digest", 60, 60),
     ("geodesy", 250, 60),
     ("grid", 900, 60),
-    ("raster", 250, 24),
-    ("build", 80, 90),
-    ("rectangle", 150, 220),
+    ("raster", 250, 28),
+    ("build", 40, 300),
+    ("rectangle", 150, 240),
     ("kernel", 150, 60),
-    ("circle", 100, 100),
+    ("circle", 80, 150),
 ];
 
 /// Document 01's own example, and the cases that it names.
@@ -67,28 +72,33 @@ fn examples() -> Vec<Vec<u64>> {
         of(0x62, &bits([80.0, -80.0, -180.0, 180.0])),
         of(0x62, &bits([80.0, -80.0, 170.0, -170.0])),
         of(0x62, &bits([90.0, -90.0, -180.0, 180.0])),
-        vec![0x40, nodata, 5, nodata, cell(-0.0), cell(f32::INFINITY), cell(f32::NAN), cell(-1.0)],
-        vec![0x40, 0, 2, 0, cell(-0.0)],
-        vec![0x40, 0, 8193],
+        of_lists(0x40, &[&[nodata], &[nodata, cell(-0.0), cell(f32::INFINITY), cell(f32::NAN), cell(-1.0)]]),
+        of_lists(0x40, &[&[0], &[0, cell(-0.0)]]),
     ];
     for width in [0, 1, 1_048_576, 1_048_577] {
         calls.push([vec![0x30, width, 1], bits([0.0, 0.0, 1e-5, -1.0])].concat());
         calls.push([vec![0x30, 1, width], bits([0.0, 0.0, 1.0, -1e-5])].concat());
     }
     // Built at factors 1 and 2, with the calls that are refused on the way; 0 and 3 are refused.
+    let origin = LatLon { lat: 90.0, lon: -180.0 };
+    let source = Grid { width: 4, height: 2, origin, lon_step: 90.0, lat_step: -90.0 };
     for (factor, coarse, table) in [(1, 5, 15), (2, 3, 6), (0, 5, 15), (3, 5, 15)] {
-        let mut operations = vec![0, factor, nodata, 2, 1, 4];
-        operations.extend(rows[0]);
-        operations.extend([2, 1, 3, 0, 0, 0, 1, 4]);
-        operations.extend(rows[1]);
-        operations.extend([2, 1, 0, 2]);
-        let lent = [0x4008_0000_0000_0000, 5, 5, coarse, table, operations.len() as u64];
-        calls.push(of(0x50, &[lent.to_vec(), operations].concat()));
+        let mut walk = Walk::new(&source, 0x4008_0000_0000_0000, [5, 5, coarse, table]);
+        walk.start(factor, nodata);
+        walk.finish();
+        walk.row(&rows[0]);
+        walk.finish();
+        walk.row(&[0, 0, 0]);
+        walk.row(&rows[1]);
+        walk.finish();
+        walk.row(&[]);
+        walk.finish();
+        calls.extend(walk.calls);
     }
     let table = [0, 0, 0, 0, 0, 0, 1, 3, 6, 10, 0, 6, 8, 11, 15].map(|x| f64::from(x).to_bits());
     let questions =
         [[0, 0, 0, 3, 0], [0, 1, 1, 0, 0], [0, 1, 0, 1, 2], [1, 0, 1, 0, 0], [0, 2, 1, 0, 0]].concat();
-    calls.push(of(0x60, &[vec![15], table.to_vec(), vec![25], questions].concat()));
+    calls.push(of_lists(0x60, &[&grid, &table, &[], &questions]));
     for (row, column, km, widths) in [
         (0, 0, 7000.0, vec![1]),
         (0, 2, 1.0, vec![0]),
@@ -97,10 +107,11 @@ fn examples() -> Vec<Vec<u64>> {
         (0, 0, 20016.0, vec![2, 2]),
         (2, 0, 5.0, vec![]),
     ] {
-        calls.push(of(0x70, &[row, f64::to_bits(km), 2, 9]));
-        let count = widths.len() as u64;
-        let kernel = [grid.clone(), vec![row, f64::to_bits(km), row, count, count], widths].concat();
-        calls.push(of(0x80, &[vec![15], table.to_vec(), kernel, vec![2, column, 4]].concat()));
+        let centre = [row, f64::to_bits(km)];
+        calls.push(of_lists(0x70, &[&[&grid[..], &centre].concat(), &[9, 10]]));
+        let words = [&grid[..], &grid, &centre, &[row, widths.len() as u64]].concat();
+        let columns = [[column, 0, 0, 0, 0], [4, 0, 0, 0, 0]].concat();
+        calls.push(of_lists(0x80, &[&words, &table, &widths, &columns]));
     }
     calls
 }

@@ -1,48 +1,33 @@
-// Calls 20 to 2e: `geodesy`.
+// Calls of `geodesy` that may be refused, and those of `grid` that are answered alike.
 use crate::answers::*;
 use crate::words::*;
 use geodesy::*;
+use grid::Row;
 use radius::*;
-use stand_ins::*;
 
-pub fn answer(call: &[u64]) -> Answer {
-    let x = number(call, 1);
-    let y = number(call, 2);
-    match word(call, 0) {
-        0x27 => measured(angular_distance_rad(point(call, 1), point(call, 3))),
-        0x28 => measured(great_circle_km(point(call, 1), point(call, 3))),
-        0x2b => made(RadiusKm::new(x)),
-        0x2c => shown(RadiusKm::from_u32(half(call, 1)).km()),
-        0x2d => made(RadiusKm(x).widened_by(y)),
-        0x2e => shown(zone_area_km2(LatBand { north: x, south: y }, number(call, 3))),
-        n => shown(of_floats(n, x, y)),
-    }
-}
-
-fn of_floats(call: u64, x: f64, y: f64) -> f64 {
-    match call {
-        0x20 => sin(x),
-        0x21 => cos(x),
-        0x22 => atan2(x, y),
-        0x23 => acos(x),
-        0x24 => to_radians(x),
-        0x25 => to_degrees(x),
-        0x26 => wrap_lon(x),
-        0x29 => arc_km(x),
-        _ => central_angle_rad(x),
-    }
-}
-
-pub fn measured(answer: MeasureAnswer) -> Answer {
+pub fn measure(n: u64, call: &[u8]) -> Answer {
+    let g = grid_at(call, 0);
+    let i = Row(half(call, 6));
+    let answer = match n {
+        0x27 => angular_distance_rad(point(call, 0), point(call, 2)),
+        0x28 => great_circle_km(point(call, 0), point(call, 2)),
+        0x32 => g.centre_lat(i),
+        _ => g.cell_area_km2(i),
+    };
     match answer {
-        MeasureAnswer::Measured(x) => accepted(x),
+        MeasureAnswer::Measured(x) => floats(x, 0.0),
         MeasureAnswer::Refused(n) => refused(n),
     }
 }
 
-fn made(answer: RadiusAnswer) -> Answer {
+pub fn radius(n: u64, call: &[u8]) -> Answer {
+    let x = number(call, 0);
+    let answer = match n {
+        0x2b => RadiusKm::new(x),
+        _ => RadiusKm(x).widened_by(number(call, 1)),
+    };
     match answer {
-        RadiusAnswer::Made(r) => accepted(r.0),
+        RadiusAnswer::Made(r) => floats(r.0, 0.0),
         RadiusAnswer::Refused(n) => refused(n),
     }
 }

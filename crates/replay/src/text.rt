@@ -1,106 +1,71 @@
 // The text: words of 16 hexadecimal digits, each with one byte behind it that separates it from the next.
-ghost use Prim.Native.Nat.{_<_};
-use crate::answers::put;
-use crate::words::Words;
 use libc::STDIN_FILENO;
 use libc::STDOUT_FILENO;
 
 // The bytes of a word with its separator.
-const UNIT: usize = 17;
+pub const UNIT: usize = 17;
 
-pub type Text = [u8; 65536];
+// The bytes of 32,768 words: no call and no answer has more.
+pub const SIZE: usize = 557056;
 
-// The next words of the input are put from `at` on; the place behind them. 65,535 bytes are 3,855 words, so no word goes
-// over the end of what is read at once.
-pub fn read_words(words: &mut Words, at: usize) -> usize {
-    let mut input = io::large_buffer();
-    read(&mut input[0..65535], words, at)
-}
+pub type Text = [u8; SIZE];
 
-fn read(input: &mut [u8], words: &mut Words, at: usize) -> usize {
-    let n = io::read_full(STDIN_FILENO, input);
-    decode(&input[..n], words, at)
-}
-
-fn decode(text: &[u8], words: &mut Words, at: usize) -> usize {
-    let mut end = at;
-    let mut rest = text;
-    while UNIT <= rest.len() {
-        end = put(words, end, value(&rest[0..16]));
-        rest = &rest[UNIT..];
+// The next n words of the input, in the front of the text; false where they are not there or are too many.
+pub fn read(text: &mut [u8], n: usize) -> bool {
+    let size = n % 0x1_0000_0000 * UNIT;
+    if size <= text.len() {
+        return io::read_full(STDIN_FILENO, &mut text[0..size]) == size;
     }
-    end
+    false
 }
 
-fn value(digits: &[u8]) -> u64 {
+// The word at the front of the text.
+pub fn value(text: &[u8]) -> u64 {
     let mut word = 0;
     let mut i = 0;
-    while i < digits.len() {
-        word = word % 0x1000_0000_0000_0000 * 16 + digit(digits[i]);
+    while i < text.len() {
+        if i == 16 {
+            break;
+        }
+        word = (word % 0x1000_0000_0000_0000 * 16) | digit(text[i]);
         i += 1;
     }
     word
 }
 
-// The value of a digit; 0 for any other byte.
-fn digit(byte: u8) -> u64
-    ensures { λ r. ⌜ r < 16 ⌝ }
-{
-    match byte {
-        b'0'..=b'9' => (byte - b'0') as u64,
-        b'a'..=b'f' => (byte - b'a') as u64 + 10,
-        _ => 0,
+fn digit(byte: u8) -> u64 {
+    let b = byte as u64;
+    b % 16 + b / 64 * 9
+}
+
+// The place behind the word that was put at `at`; past the end nothing is put.
+pub fn put(out: &mut Text, at: usize, word: u64) -> usize {
+    if SIZE - UNIT < at {
+        return at;
     }
-}
-
-// A line of the words, behind the bytes that wait: a newline stands behind the last, a space behind the others.
-pub fn write_line(output: &mut Text, waiting: usize, words: &[u64]) -> usize {
-    let mut end = waiting;
-    let mut i = 0;
-    while i < words.len() {
-        let at = room(output, end);
-        spell(output, at, digits(words[i]), separator(words.len() - i));
-        end = at + UNIT;
-        i += 1;
+    let mut rest = word;
+    let mut i = at + 16;
+    out[i] = b' ';
+    while at < i {
+        i -= 1;
+        out[i] = glyph(rest);
+        rest /= 16;
     }
-    end
+    at + UNIT
 }
 
-// Room for a word: what waits is written where there is none.
-fn room(output: &Text, waiting: usize) -> usize
-    ensures { λ r. ⌜ r < 65520 ⌝ }
-{
-    if waiting < 65520 {
-        return waiting;
+fn glyph(n: u64) -> u8 {
+    b"0123456789abcdef"[(n % 16) as usize]
+}
+
+// Writes the words up to `end`, with a newline behind the last.
+pub fn write_line(text: &mut Text, end: usize) {
+    if end == 0 {
+        return;
     }
-    flush(output, waiting);
-    0
-}
-
-pub fn flush(output: &Text, waiting: usize) {
-    let bytes = &output[..];
-    if waiting <= bytes.len() {
-        io::write_all(STDOUT_FILENO, &bytes[0..waiting]);
+    if end <= SIZE {
+        text[end - 1] = b'\n';
+        let line = &text[..];
+        io::write_all(STDOUT_FILENO, &line[0..end]);
     }
-}
-
-fn separator(left: usize) -> u8 {
-    if left == 1 { b'\n' } else { b' ' }
-}
-
-fn digits(word: u64) -> [u8; 16] {
-    let mut digits = [0; 16];
-    io::hex(word, 16, &mut digits);
-    digits
-}
-
-fn spell(output: &mut Text, at: usize, digits: [u8; 16], separator: u8)
-    requires { ⌜ at < 65520 ⌝ }
-{
-    let mut i = 0;
-    while i < 16 {
-        output[at + i] = digits[i];
-        i += 1;
-    }
-    output[at + 16] = separator;
 }

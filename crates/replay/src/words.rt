@@ -1,58 +1,39 @@
-// The words of a call. Any place may be asked for: past the end a word is 0, and a part is empty. So no call has to
-// show that its words are there.
-ghost use mathlib.Core.Path.{_≡_};
-ghost use lib.ListN.{length};
+// The words of a call, as its text has them. Any place may be asked for: past the end a word is 0, and a part is empty.
+// So no call has to show that its words are there.
+use crate::text::UNIT;
+use crate::text::value;
 use geodesy::LatLon;
 use grid::Grid;
-// A sum of places. It does not wrap: both are below a buffer's length.
-pub use std::num::wrapping_add_usize as plus;
 
-// The longest answer: a build of 8,192 finishes with 20 words each, its four buffers, its builder. No call is as long.
-pub const LENGTH: usize = 196628;
+// The longest list that is lent; what is past it is left out.
+pub const SPACE: usize = 8192;
 
-pub type Words = [u64; LENGTH];
+pub type Row = [u32; SPACE];
 
-pub fn row_space() -> [u32; 8192]
-    ensures { λ r. ⌜ 8192 ≡ length r ⌝ }
-{
-    [0; 8192]
+pub type Cells = [f64; SPACE];
+
+pub fn word(call: &[u8], at: usize) -> u64 {
+    value(from(call, at))
 }
 
-pub fn cell_space() -> [f64; 8192]
-    ensures { λ r. ⌜ 8192 ≡ length r ⌝ }
-{
-    [0.0; 8192]
+pub fn half(call: &[u8], at: usize) -> u32 {
+    (word(call, at) % 0x1_0000_0000) as u32
 }
 
-pub fn word(words: &[u64], at: usize) -> u64 {
-    if at < words.len() {
-        return words[at];
-    }
-    0
+pub fn number(call: &[u8], at: usize) -> f64 {
+    float::from_bits(word(call, at))
 }
 
-pub fn low_half(word: u64) -> u32 {
-    (word % 0x1_0000_0000) as u32
-}
-
-pub fn half(words: &[u64], at: usize) -> u32 {
-    low_half(word(words, at))
-}
-
-pub fn number(words: &[u64], at: usize) -> f64 {
-    float::from_bits(word(words, at))
-}
-
-pub fn point(words: &[u64], at: usize) -> LatLon {
-    let rest = from(words, at);
+pub fn point(call: &[u8], at: usize) -> LatLon {
+    let rest = from(call, at);
     LatLon {
         lat: number(rest, 0),
         lon: number(rest, 1),
     }
 }
 
-pub fn grid_at(words: &[u64], at: usize) -> Grid {
-    let rest = from(words, at);
+pub fn grid_at(call: &[u8], at: usize) -> Grid {
+    let rest = from(call, at);
     Grid {
         width: half(rest, 0),
         height: half(rest, 1),
@@ -63,54 +44,58 @@ pub fn grid_at(words: &[u64], at: usize) -> Grid {
     }
 }
 
-pub fn from(words: &[u64], at: usize) -> &[u64] {
-    if at < words.len() {
-        return &words[at..];
+pub fn from(call: &[u8], at: usize) -> &[u8] {
+    let place = at % 0x1_0000_0000 * UNIT;
+    if place < call.len() {
+        return &call[place..];
     }
-    &words[0..0]
+    &call[0..0]
 }
 
-pub fn front(words: &[u64], n: usize) -> &[u64] {
-    if n < words.len() {
-        return &words[0..n];
+pub fn front(call: &[u8], n: usize) -> &[u8] {
+    let place = n % 0x1_0000_0000 * UNIT;
+    if place < call.len() {
+        return &call[0..place];
     }
-    words
+    call
 }
 
-// The list whose length stands at `at`.
-pub fn list(words: &[u64], at: usize) -> &[u64] {
-    front(from(words, plus(at, 1)), word(words, at) as usize)
+// List k of a call that has several: word k is its place, and the next word the place behind it.
+pub fn list(call: &[u8], k: usize) -> &[u8] {
+    let places = from(call, k);
+    let end = word(places, 1) as usize;
+    from(front(call, end), word(places, 0) as usize)
 }
 
-// Entry i of a list; past its end the fill, plus i.
-fn entry(list: &[u64], i: usize, fill: u64) -> u64 {
-    if i < list.len() {
-        return list[i];
-    }
-    std::num::wrapping_add_u64(fill, i as u64)
+pub fn count(list: &[u8]) -> usize {
+    list.len() / UNIT
 }
 
-// A row of n cells, in the front of the space that is lent.
-pub fn load_row<'a>(space: &'a mut [u32], n: usize, list: &[u64], fill: u64) -> &'a mut [u32] {
+// List k as floats, in the front of the space that is lent.
+pub fn load_cells<'a>(space: &'a mut [f64], call: &[u8], k: usize) -> &'a mut [f64] {
+    let list = list(call, k);
+    let n = count(list);
     let mut i = 0;
     while i < space.len() {
         if n <= i {
             break;
         }
-        space[i] = low_half(entry(list, i, fill));
+        space[i] = number(list, i);
         i += 1;
     }
     &mut space[0..i]
 }
 
-// As many floats likewise.
-pub fn load_cells<'a>(space: &'a mut [f64], n: usize, list: &[u64], fill: u64) -> &'a mut [f64] {
+// List k as cells of a raster or half-widths likewise.
+pub fn load_row<'a>(space: &'a mut [u32], call: &[u8], k: usize) -> &'a mut [u32] {
+    let list = list(call, k);
+    let n = count(list);
     let mut i = 0;
     while i < space.len() {
         if n <= i {
             break;
         }
-        space[i] = float::from_bits(entry(list, i, fill));
+        space[i] = half(list, i);
         i += 1;
     }
     &mut space[0..i]

@@ -6,7 +6,4 @@ use Rattle.replay.proofs.run.Tie as tie
 pub run-spec : {M : Type 1} → statement M
 run-spec =
     tie.close
-    (tie.spec (λ words₀ answer₀ kept₀ budget₀ words answer kept budget. Unit {0})
-    (λ words₀ answer₀ kept₀ budget₀ words answer kept budget. budget) (λ c. search needs) (λ c κs. search needs)
-    (λ c κs. search needs) (λ c κs. search needs) (λ c κs. search needs) (λ c. search needs) (λ c. search needs)
-    (λ c. search needs) (λ c. search needs) (λ c. search needs))
+    (tie.spec (λ input₀ out₀ budget₀ input out budget. Unit {0}) (λ input₀ out₀ budget₀ input out budget. budget) (λ c. search needs) (λ c κs. search needs) (λ c. search needs) (λ c. search needs) (λ c. search needs) (λ c. search needs) (λ c. search needs))

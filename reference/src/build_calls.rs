@@ -1,0 +1,83 @@
+// Calls 50 to 52: a start, a row and a finish, each on the builder and the buffers that it is given.
+use crate::calls::{one, shown, six, Answer};
+use crate::grid_calls::{fields, grid};
+use crate::raster::CellTallies;
+use crate::refusals::{self, Refusal};
+use crate::table::{Buffers, Builder, Decimation};
+use crate::table_calls::{cells_of, patterns_of, tallied};
+use crate::words::{lent, list, Arguments};
+
+/// The buffers that a build is lent: accumulator, corrections, coarse row, table.
+pub struct Lent(pub [Vec<f64>; 4]);
+
+impl Lent {
+    pub fn buffers(&mut self) -> Buffers<'_> {
+        let [acc, corr, coarse, table] = &mut self.0;
+        Buffers { acc, corr, coarse, table }
+    }
+}
+
+fn lent_by(call: &[u64]) -> Lent {
+    Lent([1, 2, 3, 4].map(|k| lent(call, k).iter().map(|&bits| f64::from_bits(bits)).collect()))
+}
+
+fn left(lent: Lent) -> Answer {
+    lent.0.concat().into_iter().map(shown).collect()
+}
+
+pub fn start(call: &[u64]) -> Answer {
+    let words = &mut Arguments(list(call, 0));
+    let (source, factor, nodata) = (grid(words), words.next() as u32, words.next() as u32);
+    let mut lent = lent_by(call);
+    let started = refusals::start(source, factor, nodata, &mut lent.buffers());
+    [given(started), left(lent)].concat()
+}
+
+pub fn row(call: &[u64]) -> Answer {
+    let mut builder = builder(list(call, 0));
+    let mut lent = lent_by(call);
+    let mut cells = cells_of(self::lent(call, 5));
+    let answer = refusals::build_row(&mut builder, &mut cells, &mut lent.buffers());
+    [given(answer.map(|()| builder)), patterns_of(&cells), left(lent)].concat()
+}
+
+/// A finish is lent nothing that it could change.
+pub fn finish(call: &[u64]) -> Answer {
+    let mut lent = lent_by(call);
+    match refusals::finish(&builder(list(call, 0)), &lent.buffers()) {
+        Ok(t) => {
+            // A built table has no nodata and no rows.
+            let (decimation, digest, tallies) = (t.decimation, t.digest, t.tallies);
+            builder_words(Builder { decimation, nodata: 0, rows: 0, digest, tallies }, t.total)
+        }
+        Err(number) => six(one(number)),
+    }
+}
+
+/// A builder from its twenty words.
+pub fn builder(words: &[u64]) -> Builder {
+    let words = &mut Arguments(words);
+    let (source, coarse) = (grid(words), grid(words));
+    Builder {
+        decimation: Decimation { factor: words.next() as u32, source, grid: coarse },
+        nodata: words.next() as u32,
+        rows: words.next() as u32,
+        digest: words.next(),
+        tallies: CellTallies {
+            nodata: words.next(),
+            unexpected_negative: words.next(),
+            zero: words.next(),
+            populated: words.next(),
+        },
+    }
+}
+
+fn given(answer: Result<Builder, Refusal>) -> Answer {
+    answer.map_or_else(|number| six(one(number)), |b| builder_words(b, 0.0))
+}
+
+fn builder_words(b: Builder, total: f64) -> Answer {
+    let tallies = [tallied(b.tallies), vec![b.digest, shown(total)]].concat();
+    let numbers = [b.decimation.factor, b.nodata, b.rows].map(u64::from);
+    [fields(b.decimation.source), fields(b.decimation.grid), tallies, six(numbers.to_vec())].concat()
+}

@@ -1,0 +1,198 @@
+// Builds: a walk of starts, rows and finishes, each call on what the Rust's answer to the one before left.
+use crate::build_calls::{builder, Lent};
+use crate::generate::Random;
+use crate::generate_grids::grid_words;
+use crate::generate_tables::Cells;
+use crate::grid::Grid;
+use crate::refusals;
+use crate::table::{padded_len, Builder, Decimation};
+use crate::table_calls::{cells_of, tallied};
+use crate::words::listed;
+
+/// The calls so far, and what they left: the builder's twenty words and the lent buffers.
+pub struct Walk {
+    pub calls: Vec<Vec<u64>>,
+    builder: Vec<u64>,
+    lent: Lent,
+}
+
+impl Walk {
+    /// At first the builder is the record of the grid at factor 1, and zeros. Entry i of each buffer has the pattern of
+    /// the fill's low 63 bits, plus i.
+    pub fn new(g: &Grid, fill: u64, lengths: [u64; 4]) -> Self {
+        let filled = |n: u64| (0..n).map(|i| f64::from_bits((fill & !(1 << 63)) + i)).collect();
+        let builder = [grid_words(g), grid_words(g), vec![1, 0, 0, 0, 0, 0, 0, 0]].concat();
+        Self { calls: vec![], builder, lent: Lent(lengths.map(filled)) }
+    }
+
+    fn push(&mut self, number: u64, words: &[u64], row: &[u64]) {
+        let [acc, corr, coarse, table] =
+            [0, 1, 2, 3].map(|k: usize| self.lent.0[k].iter().map(|x| x.to_bits()).collect::<Vec<u64>>());
+        let lists = [words, &acc[..], &corr, &coarse, &table, row];
+        self.calls.push([vec![number], listed(&lists[..if number == 0x51 { 6 } else { 5 }])].concat());
+    }
+
+    /// On the builder's source grid.
+    pub fn start(&mut self, factor: u64, nodata: u64) {
+        let words = [&self.builder[..6], &[factor, nodata]].concat();
+        self.push(0x50, &words, &[]);
+        let source = builder(&self.builder).decimation.source;
+        if let Ok(b) = refusals::start(source, factor as u32, nodata as u32, &mut self.lent.buffers()) {
+            self.builder = words_of(b);
+        }
+    }
+
+    pub fn row(&mut self, row: &[u64]) {
+        self.push(0x51, &self.builder.clone(), row);
+        let mut b = builder(&self.builder);
+        if refusals::build_row(&mut b, &mut cells_of(row), &mut self.lent.buffers()).is_ok() {
+            self.builder = words_of(b);
+        }
+    }
+
+    pub fn finish(&mut self) {
+        self.push(0x52, &self.builder.clone(), &[]);
+    }
+}
+
+fn words_of(b: Builder) -> Vec<u64> {
+    let numbers = [b.decimation.factor, b.nodata, b.rows].map(u64::from);
+    let grids = [grid_words(&b.decimation.source), grid_words(&b.decimation.grid)].concat();
+    [grids, numbers.to_vec(), vec![b.digest], tallied(b.tallies)].concat()
+}
+
+impl Random {
+    /// A source grid and a factor, which most often divides both of its dimensions.
+    fn source(&mut self) -> (Grid, u64) {
+        let factor = if self.chance(3) { 1 } else { 1 + self.below(12) };
+        let (columns, rows) = (1 + self.below(40 / factor), 1 + self.below(24 / factor));
+        let mut size = [columns * factor, rows * factor];
+        if self.chance(8) {
+            size = [1 + self.below(40), 1 + self.below(24)];
+        }
+        let mut g = self.made_grid(size[0] as u32, size[1] as u32);
+        if self.chance(16) {
+            self.spoil(&mut g);
+        }
+        let factor = if self.chance(16) { self.pick(&[0, 2, 3, 0xffff_ffff, 1 << 32 | 1]) } else { factor };
+        (g, factor)
+    }
+
+    /// The first words of the lent buffers.
+    fn fill(&mut self) -> u64 {
+        match self.below(4) {
+            0 => self.pick(&[0, 0x3ff0_0000_0000_0000, 0x7ff0_0000_0000_0000 - 3, 0x7ff8_0000_0000_0000]),
+            _ => self.word(),
+        }
+    }
+
+    /// The lengths that a build asks, or others: one of them, or two.
+    fn lengths(&mut self, g: &Grid, coarse: &Grid) -> [u64; 4] {
+        let wide = u64::from(g.width).min(100) + 1;
+        let table = padded_len(coarse) as u64;
+        let mut lengths = [wide, wide, u64::from(coarse.width).min(100) + 1, table.min(1200)];
+        let others = if self.chance(12) { 1 + self.below(4) / 3 } else { 0 };
+        for _ in 0..others {
+            let which = self.below(4) as usize;
+            lengths[which] = match self.below(4) {
+                0 => lengths[which] + 1,
+                1 => lengths[which].saturating_sub(1),
+                2 => self.below(100),
+                _ => 0,
+            };
+        }
+        lengths
+    }
+
+    /// A field of the builder becomes a word that its maker may not have put there.
+    fn forge(&mut self, walk: &mut Walk, g: &Grid) {
+        let field = self.below(21) as usize;
+        let mut other = *g;
+        self.spoil(&mut other);
+        let word = match field {
+            0..=11 => match self.below(4) {
+                0 => grid_words(&other)[field % 6],
+                1 => grid_words(g)[field % 6] ^ 1 << 63,
+                2 => grid_words(g)[field % 6] + 1,
+                _ => self.word(),
+            },
+            12 => self.below(13),
+            14 => self.below(u64::from(g.height) + 3),
+            16..=19 => match self.below(4) {
+                0 => u64::MAX - self.below(2),
+                1 => 1 << 63,
+                _ => self.below(u64::from(g.width) * 3 + 1),
+            },
+            _ => self.word(),
+        };
+        if let Some(w) = walk.builder.get_mut(field) {
+            *w = word;
+        }
+    }
+
+    /// The same builder with other rows, which a maker could give: the tallies add up.
+    fn jump(&mut self, walk: &mut Walk, g: &Grid) {
+        let rows = self.below(u64::from(g.height) + 1);
+        let cells = rows * u64::from(g.width);
+        let nodata = self.below(cells + 1);
+        walk.builder[14] = rows;
+        walk.builder[16..].copy_from_slice(&[nodata, cells - nodata, 0, 0]);
+    }
+
+    /// A row of the length that is asked, or of another.
+    fn build_row(&mut self, g: &Grid, cells: Cells, nodata: u64) -> Vec<u64> {
+        let width = u64::from(g.width).min(300);
+        let length = if self.chance(16) {
+            self.pick(&[0, 1, width.saturating_sub(1), width + 1, 2 * width])
+        } else {
+            width
+        };
+        self.row_of(cells, nodata, length)
+    }
+
+    /// A start, the rows with other calls among them, a finish, and what comes after it.
+    pub fn build(&mut self) -> Vec<Vec<u64>> {
+        let (g, factor) = self.source();
+        let coarse = Decimation::new(g, factor as u32).map_or(g, |d| d.grid);
+        let (fill, lengths) = (self.fill(), self.lengths(&g, &coarse));
+        let mut walk = Walk::new(&g, fill, lengths);
+        let (nodata, cells) = (self.nodata(), self.cells());
+        if !self.chance(32) {
+            walk.start(factor, nodata);
+        }
+        for _ in 0..g.height.min(24) {
+            match self.below(48) {
+                0 => walk.finish(),
+                1 => {
+                    self.forge(&mut walk, &g);
+                    walk.row(&self.build_row(&g, cells, nodata));
+                    walk.finish();
+                    let right = [grid_words(&g), grid_words(&coarse), vec![factor]].concat();
+                    walk.builder[..13].copy_from_slice(&right);
+                }
+                2 => self.jump(&mut walk, &g),
+                3 => walk.start(factor, nodata),
+                4 => walk.calls.push(vec![0x53 + self.below(3)]),
+                _ => {}
+            }
+            walk.row(&self.build_row(&g, cells, nodata));
+        }
+        for _ in 0..self.below(3) {
+            walk.row(&self.build_row(&g, cells, nodata));
+        }
+        for _ in 0..self.below(4) {
+            match self.below(6) {
+                0 => walk.row(&self.build_row(&g, cells, nodata)),
+                1 => self.jump(&mut walk, &g),
+                2 => self.forge(&mut walk, &g),
+                _ => walk.finish(),
+            }
+        }
+        // A call that is cut short.
+        if let Some(mut call) = walk.calls.last().cloned().filter(|_| self.chance(10)) {
+            call.truncate(1 + self.below(call.len() as u64) as usize);
+            walk.calls.push(call);
+        }
+        walk.calls
+    }
+}
