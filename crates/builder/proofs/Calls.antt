@@ -79,7 +79,12 @@ module _ (g : Grid) (k nodata : ℕ) (m : Buffers) (o : Outcome Builder)
     unfolding firstBuilder
     start-room =
         let s = start-passed g k m (is .0) in
-        rw (← is .1) (record { valid = decimation-valid g k (s .valid) (s .factored); acc = s .lengths .acc; coarse = s .lengths .coarse; table = s .lengths .table })
+        rw (← is .1) (record {
+          valid = decimation-valid g k (s .valid) (s .factored);
+          acc = s .lengths .acc;
+          coarse = s .lengths .coarse;
+          table = s .lengths .table;
+        })
 
     pub started : (acc corr table : List Float)
         → acc ≡ replicate (length (m .acc)) f64zero

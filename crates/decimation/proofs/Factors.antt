@@ -111,4 +111,10 @@ decimation-made g k d e =
     let p = answered-passed (first (not (validGrid g)) notItsMakers (factorRefusal g k)) (decimationOf g k) d e in
     let q = first-passed (not (validGrid g)) notItsMakers (factorRefusal g k) tt (p .0) in
     let v = not-false (validGrid g) (q .0) in
-    record { source = v; factored = q .1; is = sym (p .1); grid = ap (λ (x : Decimation). x .grid) (p .1); valid = rw (← p .1) (decimation-valid g k v (q .1)) }
+    record {
+      source = v;
+      factored = q .1;
+      is = sym (p .1);
+      grid = ap (λ (x : Decimation). x .grid) (p .1);
+      valid = rw (← p .1) (decimation-valid g k v (q .1));
+    }

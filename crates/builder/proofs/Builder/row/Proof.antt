@@ -26,7 +26,8 @@ tested c = c .before .before .before .before
 
 taken : (c : tie.After-sweep-row)
     → Taken (start (tested c .before) .args .self) (start (tested c .before) .args .row .now)
-    (buffers (start (tested c .before) .args .acc .now) (start (tested c .before) .args .corr .now) (start (tested c .before) .args .coarse .now) (start (tested c .before) .args .table .now))
+    (buffers (start (tested c .before) .args .acc .now) (start (tested c .before) .args .corr .now)
+    (start (tested c .before) .args .coarse .now) (start (tested c .before) .args .table .now))
 taken c =
     let t = tested c in
     let a = start (t .before) .args in

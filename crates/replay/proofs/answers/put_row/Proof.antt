@@ -7,4 +7,6 @@ use Rattle.replay.proofs.answers.put_row.Tie as tie
 pub put-row-spec : {M : Type 1} → statement M
 put-row-spec =
     tie.close
-    (tie.spec (λ out₀ at call k space n end₀ i₀ out end i. Unit {0}) (λ out₀ at call k space n end₀ i₀ out end i. 8192 - i) (λ c κs. search needs) (λ c κs. search needs) (λ c. search needs) (λ c. search needs) (λ c. search needs) (λ c κs. search needs) (λ c κs. search needs) (λ c. search needs) (λ c. search needs) (λ c. search needs) (λ c. search needs) (λ c. search needs))
+    (tie.spec (λ out₀ at call k space n end₀ i₀ out end i. Unit {0}) (λ out₀ at call k space n end₀ i₀ out end i. 8192 - i)
+    (λ c κs. search needs) (λ c κs. search needs) (λ c. search needs) (λ c. search needs) (λ c. search needs) (λ c κs. search needs)
+    (λ c κs. search needs) (λ c. search needs) (λ c. search needs) (λ c. search needs) (λ c. search needs) (λ c. search needs))

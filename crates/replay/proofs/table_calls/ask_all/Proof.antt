@@ -6,4 +6,7 @@ use Rattle.replay.proofs.table_calls.ask_all.Tie as tie
 pub ask-all-spec : {M : Type 1} → statement M
 ask-all-spec =
     tie.close
-    (tie.spec (λ n call cells half-widths out₀ words questions left₀ end₀ at₀ out left end at. Unit {0}) (λ n call cells half-widths out₀ words questions left₀ end₀ at₀ out left end at. left) (λ c κs. search needs) (λ c κs. search needs) (λ c κs. search needs) (λ c κs. search needs) (λ c. search needs) (λ c κs. search needs) (λ c κs. search needs) (λ c κs. search needs) (λ c κs. search needs) (λ c. search needs) (λ c. search needs) (λ c. search needs) (λ c. search needs))
+    (tie.spec (λ n call cells half-widths out₀ words questions left₀ end₀ at₀ out left end at. Unit {0})
+    (λ n call cells half-widths out₀ words questions left₀ end₀ at₀ out left end at. left) (λ c κs. search needs) (λ c κs. search needs)
+    (λ c κs. search needs) (λ c κs. search needs) (λ c. search needs) (λ c κs. search needs) (λ c κs. search needs) (λ c κs. search needs)
+    (λ c κs. search needs) (λ c. search needs) (λ c. search needs) (λ c. search needs) (λ c. search needs))

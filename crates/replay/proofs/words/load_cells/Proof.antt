@@ -9,4 +9,7 @@ use Rattle.replay.proofs.words.load_cells.Tie as tie
 pub load-cells-spec : {M : Type 1} → statement M
 load-cells-spec =
     tie.close
-    (tie.spec (λ space₀ call k list n i₀ space i. (length space ≡ length space₀) × (i ≤ length space₀)) (λ space₀ call k list n i₀ space i. length space₀ - i) (λ c κs. search needs) (λ c κs. search needs) (λ c. search needs) (λ c κs. search needs) (λ c. search needs) (λ c. search needs) (λ c. search needs) (λ c. search needs) (λ c. search needs) (λ c. search needs) (λ c. search needs) (λ c. search needs) (λ c. search needs))
+    (tie.spec (λ space₀ call k list n i₀ space i. (length space ≡ length space₀) × (i ≤ length space₀))
+    (λ space₀ call k list n i₀ space i. length space₀ - i) (λ c κs. search needs) (λ c κs. search needs) (λ c. search needs)
+    (λ c κs. search needs) (λ c. search needs) (λ c. search needs) (λ c. search needs) (λ c. search needs) (λ c. search needs)
+    (λ c. search needs) (λ c. search needs) (λ c. search needs) (λ c. search needs))
