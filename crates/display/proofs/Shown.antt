@@ -14,7 +14,7 @@ use lib.Ieee.Back.{unsigned-back}
 use Rattle.float.specs.Float.{f64zero, f64one}
 use Rattle.exact.specs.Units.{f64units}
 use Rattle.exact.proofs.Units.{units-value, units-le, units-whole, units-zero}
-use Rattle.text.specs.Text.{f64p53, decimal, isCount, shown}
+use Rattle.digits.specs.Digits.{f64p53, decimal, isCount, shown}
 
 -- 2 ^ 53 people are 2 ^ 53 as a float
 most : f64units 0 (2 ^ 53) ≡ f64p53

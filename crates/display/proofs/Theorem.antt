@@ -27,7 +27,8 @@ use Rattle.circle.proofs.Made.{own-sum}
 use Rattle.ledger.specs.Ledger.{Ledger, sumIn, WholeAndSmall}
 use Rattle.ledger.proofs.Following.{Follows}
 use Rattle.ledger.proofs.Theorem.{total-units, circle-sum-of, covered-small}
-use Rattle.text.specs.Text.{decimal, newline, totalWord, totalLine, circleLine, refusedLine}
+use Rattle.digits.specs.Digits.{decimal, newline}
+use Rattle.text.specs.Text.{totalWord, totalLine, circleLine, refusedLine}
 use Rattle.card.specs.declared.Header.{Header}
 use Rattle.card.specs.declared.CardCircle.{CardCircle}
 use Rattle.card.specs.Card.{readHeader, circleAt}

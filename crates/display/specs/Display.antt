@@ -10,7 +10,8 @@ use Rattle.kernel.specs.Kernel.{northRow, rowCount, halfWidths}
 use Rattle.area.specs.Area.{inCircle}
 use Rattle.ledger.specs.Ledger.{Call, row, Ledger, opened, ledgerAfter, sumIn}
 use Rattle.ledger.specs.Claim.{coveredIn}
-use Rattle.text.specs.Text.{decimal, space, newline, totalWord, circleWord, circleRefusedLine, rowsLine, cellsLine}
+use Rattle.digits.specs.Digits.{decimal, space, newline}
+use Rattle.text.specs.Text.{totalWord, circleWord, circleRefusedLine, rowsLine, cellsLine}
 use Rattle.card.specs.declared.Header.{Header}
 use Rattle.card.specs.declared.CardCircle.{CardCircle}
 use Rattle.card.specs.Card.{rowAt, circleAt}

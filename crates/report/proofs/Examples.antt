@@ -23,7 +23,8 @@ use Rattle.kernel.specs.Walks.{northOf, southOf}
 use Rattle.cap.specs.Cap.{contained, reached, edgeRatio, edgeColumns, estimated, halfWidth}
 use Rattle.kernel.specs.Kernel.{capOver, capAt, rowReached, rowWidth, northRow, southRow, rowCount, kernelOf, ownWidths}
 use Rattle.circle.specs.Circle.{spanAround, circleSum}
-use Rattle.text.specs.Text.{shown, refusedLine, rowsLine, cellsLine, totalLine, circleLine, circleRefusedLine}
+use Rattle.digits.specs.Digits.{shown}
+use Rattle.text.specs.Text.{refusedLine, rowsLine, cellsLine, totalLine, circleLine, circleRefusedLine}
 use Rattle.card.specs.Words.{u32At, u64At}
 use Rattle.card.specs.Card.{gridAt, headerAt, readHeader, rowAt, circleAt}
 use Rattle.report.specs.Printed.{emptyBuffers, circleChecks, circleCount, printed}

@@ -18,8 +18,8 @@ use Rattle.grid.specs.Lookup.{closes}
 use Rattle.builder.specs.declared.BuiltTable.{BuiltTable}
 use Rattle.builder.specs.Build.{builtTable, totalOf}
 use Rattle.text.specs.Text.{rowsLine, cellsLine, totalLine}
-use Rattle.text.specs.Laid.{Laid}
-use Rattle.text.proofs.Laying.{laid-then, laid-whole}
+use Rattle.digits.specs.Laid.{Laid}
+use Rattle.digits.proofs.Laying.{laid-then, laid-whole}
 use Rattle.text.proofs.Lengths.{rows-length, cells-length, total-length, circle-length, circle-refused-length}
 use Rattle.card.specs.declared.Header.{Header}
 use Rattle.card.specs.declared.CardCircle.{CardCircle}

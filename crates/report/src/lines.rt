@@ -3,7 +3,7 @@ ghost use mathlib.Core.Path.{_≡_};
 ghost use mathlib.Core.List.{_++_};
 ghost use lib.ListN.{length};
 ghost use Rattle.text.specs.Text.{refusedLine, rowsLine, cellsLine, totalLine};
-ghost use Rattle.text.specs.Laid.{Laid};
+ghost use Rattle.digits.specs.Laid.{Laid};
 ghost use Rattle.table.specs.Place.{tableLength};
 ghost use Rattle.table.specs.Rectangle.{populationOutcome};
 ghost use Rattle.card.specs.private.Accepted.{Accepted};

@@ -7,8 +7,9 @@ use lib.ListN.{length, length-append}
 use lib.Ieee.{Float, binary64, toBits, toUnsigned}
 use lib.Ieee.Casts.{toUnsigned-lt}
 use Rattle.raster.specs.declared.CellTallies.{CellTallies}
-use Rattle.text.specs.Text.{decimal, hexDigits, bitsWord, isCount, shown, refusedLine, rowsLine, cellsLine, totalLine, circleLine, circleRefusedLine}
-use Rattle.text.proofs.Digits.{decimal-length, hex-length}
+use Rattle.digits.specs.Digits.{decimal, hexDigits, bitsWord, isCount, shown}
+use Rattle.text.specs.Text.{refusedLine, rowsLine, cellsLine, totalLine, circleLine, circleRefusedLine}
+use Rattle.digits.proofs.Digits.{decimal-length, hex-length}
 
 u32-length : (n : ℕ) → n < 2 ^ 32 → length (decimal n) ≤ 10
 u32-length n h = decimal-length 9 n (omega arith)

@@ -1,6 +1,2 @@
--- Laws that belong to no one function, and worked examples.
-mod Counts
-mod Digits
-pub mod Laying
+-- Laws that belong to no one function.
 pub mod Lengths
-pub mod Examples

@@ -1,17 +1,31 @@
 // The lines that `count` prints (document 01). A line is laid over a lent slice of any length from any offset on: what does not
 // fit is dropped, and the answer is the offset behind the whole line.
-mod put;
-
-ghost use Rattle.text.specs.Text.{refusedLine, rowsLine, cellsLine, totalLine, circleLine, circleRefusedLine};
-ghost use Rattle.text.specs.Laid.{Laid};
-use put::NEWLINE;
-use put::SPACE;
-use put::put_bytes;
-use put::put_circle;
-use put::put_number;
-use put::put_refused;
-use put::put_shown;
+ghost use mathlib.Core.List.{_++_};
+ghost use Rattle.digits.specs.Digits.{decimal, space};
+ghost use Rattle.digits.specs.Laid.{Laid};
+ghost use Rattle.text.specs.Text.{circleWord, refusedLine, rowsLine, cellsLine, totalLine, circleLine, circleRefusedLine};
+use digits::NEWLINE;
+use digits::SPACE;
+use digits::put_bytes;
+use digits::put_number;
+use digits::put_shown;
 use raster::CellTallies;
+
+// `refused n` and a newline.
+fn put_refused(out: &mut [u8], at: usize, n: u32) -> usize
+    ensures { λ r. ⌜ Laid (now (out .entry)) at (refusedLine n) (now (out .exit)) r ⌝ }
+{
+    let a = put_bytes(out, at, b"refused ");
+    put_number(out, a, n as u64, NEWLINE)
+}
+
+// `circle`, the index and a space.
+fn put_circle(out: &mut [u8], at: usize, i: u32) -> usize
+    ensures { λ r. ⌜ Laid (now (out .entry)) at (circleWord ++ decimal i ++ space) (now (out .exit)) r ⌝ }
+{
+    let a = put_bytes(out, at, b"circle ");
+    put_number(out, a, i as u64, SPACE)
+}
 
 pub fn refused_line(out: &mut [u8], at: usize, n: u32) -> usize
     ensures { λ r. ⌜ Laid (now (out .entry)) at (refusedLine n) (now (out .exit)) r ⌝ }

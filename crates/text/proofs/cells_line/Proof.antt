@@ -1,7 +1,8 @@
 -- `text::cells_line` meets its contract.
 -- Assumes nothing.
-use Rattle.text.proofs.Laying.{laid-parts}
-use Rattle.text.specs.Text.{decimal, space, newline, cellsLine}
+use Rattle.digits.proofs.Laying.{laid-parts}
+use Rattle.digits.specs.Digits.{decimal, space, newline}
+use Rattle.text.specs.Text.{cellsLine}
 use borrow.Author.Needs.{needs}
 use Rattle.text.proofs.cells_line.Statement.{statement}
 use Rattle.text.proofs.cells_line.Tie as tie

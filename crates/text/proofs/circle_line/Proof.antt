@@ -1,7 +1,8 @@
 -- `text::circle_line` meets its contract.
 -- Assumes nothing.
-use Rattle.text.proofs.Laying.{laid-parts}
-use Rattle.text.specs.Text.{shown, newline, circleLine}
+use Rattle.digits.proofs.Laying.{laid-parts}
+use Rattle.digits.specs.Digits.{shown, newline}
+use Rattle.text.specs.Text.{circleLine}
 use borrow.Author.Needs.{needs}
 use Rattle.text.proofs.circle_line.Statement.{statement}
 use Rattle.text.proofs.circle_line.Tie as tie

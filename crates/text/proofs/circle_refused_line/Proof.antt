@@ -1,6 +1,6 @@
 -- `text::circle_refused_line` meets its contract.
 -- Assumes nothing.
-use Rattle.text.proofs.Laying.{laid-then}
+use Rattle.digits.proofs.Laying.{laid-then}
 use Rattle.text.specs.Text.{circleRefusedLine}
 use borrow.Author.Needs.{needs}
 use Rattle.text.proofs.circle_refused_line.Statement.{statement}

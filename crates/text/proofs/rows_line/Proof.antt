@@ -1,6 +1,6 @@
 -- `text::rows_line` meets its contract.
 -- Assumes nothing.
-use Rattle.text.proofs.Laying.{laid-then}
+use Rattle.digits.proofs.Laying.{laid-then}
 use Rattle.text.specs.Text.{rowsLine}
 use borrow.Author.Needs.{needs}
 use Rattle.text.proofs.rows_line.Statement.{statement}

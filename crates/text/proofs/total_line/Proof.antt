@@ -1,6 +1,6 @@
 -- `text::total_line` meets its contract.
 -- Assumes nothing.
-use Rattle.text.proofs.Laying.{laid-then}
+use Rattle.digits.proofs.Laying.{laid-then}
 use Rattle.text.specs.Text.{totalLine}
 use borrow.Author.Needs.{needs}
 use Rattle.text.proofs.total_line.Statement.{statement}

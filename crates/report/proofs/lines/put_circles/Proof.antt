@@ -5,8 +5,8 @@ use native.Mathlib.Omega.{arith}
 use Prim.Native.Nat.{_≤_, _-_}
 use native.Mathlib.Numerals.{add-one}
 use lib.ListN.{length}
-use Rattle.text.specs.Laid.{Laid}
-use Rattle.text.proofs.Laying.{laid-none, laid-then, laid-length}
+use Rattle.digits.specs.Laid.{Laid}
+use Rattle.digits.proofs.Laying.{laid-none, laid-then, laid-length}
 use Rattle.report.specs.Printed.{circlesText}
 use Rattle.report.proofs.Sizes.{grid-valid, sizes}
 use borrow.Author.Needs.{needs}

@@ -1,7 +1,7 @@
 -- `report::lines::put_refused` meets its contract.
 -- Assumes nothing.
 use native.Mathlib.Omega.{arith}
-use Rattle.text.proofs.Laying.{laid-whole}
+use Rattle.digits.proofs.Laying.{laid-whole}
 use Rattle.text.proofs.Lengths.{refused-length}
 use borrow.Author.Needs.{needs}
 use Rattle.report.proofs.lines.put_refused.Statement.{statement}

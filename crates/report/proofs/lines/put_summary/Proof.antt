@@ -1,6 +1,6 @@
 -- `report::lines::put_summary` meets its contract.
 -- Assumes nothing.
-use Rattle.text.proofs.Laying.{laid-then}
+use Rattle.digits.proofs.Laying.{laid-then}
 use borrow.Author.Needs.{needs}
 use Rattle.report.proofs.lines.put_summary.Statement.{statement}
 use Rattle.report.proofs.lines.put_summary.Tie as tie

@@ -1,0 +1,3 @@
+-- The definitions that the contracts of `digits` cite.
+pub mod Digits
+pub mod Laid
