@@ -3,7 +3,7 @@ use Prim.Native.Nat.{ℕ}
 use mathlib.Core.Bool.{false}
 use mathlib.Core.List.{List, [], _∷_}
 use lib.Ieee.{Float, nan, inf, binary64, neg, ofBits}
-use Rattle.float.specs.Constants.{f64zero, f64one, f64p90, f64p91}
+use Rattle.float.specs.Constants.{f64zero, f64p90, f64p91}
 use Rattle.grid.specs.declared.Grid.{Grid}
 use Rattle.grid.specs.Grid.{tolerance, gridNew}
 use Rattle.cases.specs.Cases.{Case, numberOf}
@@ -13,7 +13,7 @@ abbrev made : ℕ → ℕ → Float → Float → Float → Float → ℕ
 made width height lat lon lonStep latStep =
     numberOf (gridNew (record { width = width; height = height; lat = lat; lon = lon; «lon_step» = lonStep; «lat_step» = latStep }))
 
--- .. from 90, −180 on or from another origin, with the example's steps, 90 and −90, or with others
+-- .. of that size from 90, 0 on with steps of 90 and −90; of 4 by 1 from another origin; of 4 by 1 with other steps
 abbrev sized : ℕ → ℕ → ℕ
 sized width height = made width height f64p90 f64zero f64p90 (neg f64p90)
 
@@ -41,14 +41,15 @@ grids =
     ∷ record { gives = stepping f64p90 f64p90 ∷ stepping f64p91 f64p90 ∷ []; says = 7 ∷ 7 ∷ [] }
     -- 8: three rows of 90 from the pole, and more than a full turn
     ∷ record { gives = sized 4 3 ∷ sized 5 3 ∷ []; says = 8 ∷ 8 ∷ [] }
-    -- 9: five columns of 90, to the east or to the west
+    -- 9: five columns of 90 to the east, four of 91 to the west
     ∷ record { gives = sized 5 2 ∷ stepping (neg f64p91) (neg f64p90) ∷ []; says = 9 ∷ 9 ∷ [] }
-    -- an edge 1e-9 past the pole and a span of 360 + 1e-9 pass, the next span doesn't
+    -- an edge 1e-9 past the pole and a span of 360 + 1e-9 pass, the next edge and the next span don't
     ∷ record {
       gives =
           made 4 1 (neg f64p90) f64zero f64p90 (neg tolerance)
+          ∷ made 4 1 (neg f64p90) f64zero f64p90 (neg (ofBits binary64 0x3e11_2e18_0000_0000))
           ∷ made 1 1 f64p90 f64zero (ofBits binary64 0x4076_8000_0000_44b8) (neg f64p90)
           ∷ made 1 1 f64p90 f64zero (ofBits binary64 0x4076_8000_0000_44b9) (neg f64p90) ∷ [];
-      says = 0 ∷ 0 ∷ 9 ∷ [];
+      says = 0 ∷ 8 ∷ 0 ∷ 9 ∷ [];
     }
     ∷ []

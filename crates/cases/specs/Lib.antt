@@ -1,3 +1,3 @@
--- Document 01's [P] cases. Read Cases; the theorem is `every-case` of proofs/Table.
+-- Document 01's [P] cases: read Cases; the theorem is `every-case` of proofs/Table. A grid's refusals: Grids, and `every-grid` of proofs/Grids.
 pub mod Cases
 pub mod Grids
