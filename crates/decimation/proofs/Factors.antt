@@ -47,7 +47,7 @@ module _ (g : Grid) (k : ℕ) where
   -- a decimation of a valid grid by a factor that passes is one that its maker could give
   pub decimation-valid : validGrid g ≡ true → factorRefusal g k ≡ 0 → validDecimation (decimationOf g k) ≡ true
   unfolding validDecimation
-  decimation-valid v f = rw (v, f, same-self (coarseGrid g k) (coarse-valid v f))
+  decimation-valid v f = rw (v, f, same-self (coarseGrid g k))
 
 -- ---- a decimation
 

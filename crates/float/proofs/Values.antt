@@ -38,5 +38,9 @@ unfolding toBits
 bits-of f (fin t m e) s n c C h =
     rw (h .0, div-same (m * up e * 2 ^ low f) (down e) (n * 2 ^ low f) c (down-pos e) C (omega (arith, ap (λ (z : ℕ). z * 2 ^ low f) (h .1))))
 
+-- a value of a format is known by its bits
+pub known-by-bits : (f : Format) (x y : Float) → T (fits f x) → T (fits f y) → toBits f x ≡ toBits f y → x ≡ y
+known-by-bits f x y fx fy e = sym (ofBits-toBits f x fx) ∙ ap (ofBits f) e ∙ ofBits-toBits f y fy
+
 pub value-unique : (f : Format) (x y : Float) (s : Bool) (n c : ℕ) → 0 < c → T (fits f x) → T (fits f y) → HasValue x s n c → HasValue y s n c → x ≡ y
-value-unique f x y s n c C fx fy h k = sym (ofBits-toBits f x fx) ∙ ap (ofBits f) (bits-of f x s n c C h ∙ sym (bits-of f y s n c C k)) ∙ ofBits-toBits f y fy
+value-unique f x y s n c C fx fy h k = known-by-bits f x y fx fy (bits-of f x s n c C h ∙ sym (bits-of f y s n c C k))
