@@ -71,6 +71,9 @@ impl Random {
             size = [1 + self.below(40), 1 + self.below(24)];
         }
         let mut g = self.made_grid(size[0] as u32, size[1] as u32);
+        if self.chance(4) {
+            self.zero_origin(&mut g);
+        }
         if self.chance(16) {
             self.spoil(&mut g);
         }
@@ -130,6 +133,18 @@ impl Random {
         }
     }
 
+    /// The source grid, the coarse grid or each of them gets other signs of the zeros in its origin.
+    fn sign_zeros(&mut self, walk: &mut Walk) {
+        let d = builder(&walk.builder).decimation;
+        let which = 1 + self.below(3);
+        if which & 1 != 0 {
+            walk.builder[..6].copy_from_slice(&grid_words(&self.other_zeros(&d.source)));
+        }
+        if which & 2 != 0 {
+            walk.builder[6..12].copy_from_slice(&grid_words(&self.other_zeros(&d.grid)));
+        }
+    }
+
     /// The same builder with other rows, which a maker could give: the tallies add up.
     fn jump(&mut self, walk: &mut Walk, g: &Grid) {
         let rows = self.below(u64::from(g.height) + 1);
@@ -163,8 +178,12 @@ impl Random {
         for _ in 0..g.height.min(24) {
             match self.below(48) {
                 0 => walk.finish(),
-                1 => {
-                    self.forge(&mut walk, &g);
+                1 | 5 => {
+                    if self.chance(2) {
+                        self.forge(&mut walk, &g);
+                    } else {
+                        self.sign_zeros(&mut walk);
+                    }
                     walk.row(&self.build_row(&g, cells, nodata));
                     walk.finish();
                     let right = [grid_words(&g), grid_words(&coarse), vec![factor]].concat();

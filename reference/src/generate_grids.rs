@@ -106,6 +106,31 @@ impl Random {
         Grid { width, height, origin: LatLon { lat: 45.0, lon: -180.0 }, lon_step, lat_step }
     }
 
+    /// The grid from an origin with a zero of either sign: its latitude, its longitude or both. The rows stay on the globe.
+    pub fn zero_origin(&mut self, g: &mut Grid) {
+        let which = 1 + self.below(3);
+        if which & 1 != 0 {
+            g.origin.lat = self.either_sign(0.0);
+            g.lat_step = g.lat_step.max(-90.0 / f64::from(g.height));
+        }
+        if which & 2 != 0 {
+            g.origin.lon = self.either_sign(0.0);
+        }
+    }
+
+    /// The grid with another sign of the zeros in its origin: of one, of both or of none.
+    pub fn other_zeros(&mut self, g: &Grid) -> Grid {
+        let mut other = *g;
+        let which = self.below(4);
+        if which & 1 != 0 && g.origin.lat == 0.0 {
+            other.origin.lat = -g.origin.lat;
+        }
+        if which & 2 != 0 && g.origin.lon == 0.0 {
+            other.origin.lon = -g.origin.lon;
+        }
+        other
+    }
+
     /// Any float, and often one that is not finite.
     fn odd(&mut self) -> f64 {
         if self.chance(3) {
@@ -200,15 +225,21 @@ impl Random {
     }
 
     fn other_grid(&mut self, g: &Grid) -> Grid {
-        let mut other = *g;
-        match self.below(8) {
+        let mut other = if self.chance(2) { self.other_zeros(g) } else { *g };
+        match self.below(12) {
             0 => other.width ^= 1 << self.below(32),
             1 => other.height ^= 1 << self.below(32),
             2 => other.origin.lat = self.near(g.origin.lat),
-            3 => other.origin.lon = if self.chance(2) { -g.origin.lon } else { self.near(g.origin.lon) },
+            3 => other.origin.lon = self.near(g.origin.lon),
             4 => other.lon_step = self.near(g.lon_step),
             5 => other.lat_step = self.near(g.lat_step),
             6 => return self.any_grid(),
+            7 => match self.below(4) {
+                0 => other.origin.lat = -g.origin.lat,
+                1 => other.origin.lon = -g.origin.lon,
+                2 => other.lon_step = -g.lon_step,
+                _ => other.lat_step = -g.lat_step,
+            },
             _ => {}
         }
         other
@@ -216,10 +247,12 @@ impl Random {
 
     pub fn grid_call(&mut self, call: u64) -> Vec<u64> {
         let mut g = self.any_grid();
-        // The small case where the grid has a zero of either sign or is no number at all.
-        if call == 0x3c && self.chance(4) {
-            g.origin.lat = self.pick(&[0.0, -0.0, f64::NAN]);
-            g.origin.lon = self.pick(&[0.0, -0.0]);
+        if call == 0x3c {
+            match self.below(12) {
+                0..=3 => self.zero_origin(&mut g),
+                4 => g.origin.lat = f64::NAN,
+                _ => {}
+            }
         }
         let mut words = grid_words(&g);
         if self.chance(64) {

@@ -299,11 +299,17 @@ impl Random {
     pub fn circles(&mut self) -> Vec<u64> {
         let (width, height) = self.table_size();
         let mut g = self.turn_grid(width, height);
+        if self.chance(4) {
+            self.zero_origin(&mut g);
+        }
         if refusals::new_grid(g).is_err() {
             g = self.made_grid(width, height);
         }
         let mut cells = self.table(&g);
         let (mut kernel, mut half_widths) = self.kernel_record(&g);
+        if self.chance(2) {
+            kernel.grid = self.other_zeros(&g);
+        }
         if self.chance(8) {
             self.spoil_kernel(&mut kernel, &mut half_widths);
         }

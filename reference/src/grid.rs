@@ -1,7 +1,8 @@
 // MIT licence (NOTICE). From turboBasic/PopulationCircles2026 at 29312e2fd7, crates/popcircles/src/grid.rs.
 // Cut: the error texts and what the errors carry, the tests, `#[must_use]`, `cols`, `middle_row_cell_area_km2`.
-// Put in: check 2 after 1, `rem_euclid` written out. An index that does not fit is the refusal's number, the row before
-// the column. Fields and indices are open, for records that `new` could not give; `refusals.rs` tests those.
+// Put in: check 2 after 1, `rem_euclid` written out; equality of grids by bits (document 02, C-20). An index that does not
+// fit is the refusal's number, the row before the column. Fields and indices are open, for records that `new` could not
+// give; `refusals.rs` tests those.
 use crate::geodesy::{wrap_lon, zone_area_km2, LatBand, LatLon};
 use crate::stand_ins::rem_euclid;
 
@@ -71,13 +72,28 @@ impl Col {
 
 /// Rows run north to south, so `lat_step` is negative — the GDAL north-up convention, kept so a
 /// geotransform read from a raster needs no sign flip.
-#[derive(Debug, Clone, Copy, PartialEq)]
+#[derive(Debug, Clone, Copy)]
 pub struct Grid {
     pub width: u32,
     pub height: u32,
     pub origin: LatLon,
     pub lon_step: f64,
     pub lat_step: f64,
+}
+
+impl Grid {
+    /// The bits of the four floats. The counter's language has one NaN, so every NaN has the same here.
+    pub fn float_bits(&self) -> [u64; 4] {
+        let floats = [self.origin.lat, self.origin.lon, self.lon_step, self.lat_step];
+        floats.map(|x| if x.is_nan() { 0x7ff8_0000_0000_0000 } else { x.to_bits() })
+    }
+}
+
+/// Both dimensions match, and the four floats have the same bits.
+impl PartialEq for Grid {
+    fn eq(&self, other: &Self) -> bool {
+        self.width == other.width && self.height == other.height && self.float_bits() == other.float_bits()
+    }
 }
 
 impl Grid {

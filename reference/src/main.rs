@@ -19,6 +19,7 @@ mod stand_ins;
 mod table;
 mod table_calls;
 mod words;
+mod zero_signs;
 
 use std::env;
 use std::io::{self, BufReader, BufWriter, Write};
@@ -31,6 +32,7 @@ fn main() -> ExitCode {
     let done = match arguments[..] {
         ["answer"] => Some(answer()),
         ["sample"] => Some(sample()),
+        ["zero-signs"] => Some(zero_signs()),
         ["generate", seed, from, count] => generate(seed, from, count, "all"),
         ["generate", seed, from, count, module] => generate(seed, from, count, module),
         _ => None,
@@ -42,7 +44,7 @@ fn main() -> ExitCode {
             ExitCode::FAILURE
         }
         None => {
-            eprintln!("usage: driver answer | sample | generate SEED FROM COUNT [MODULE]");
+            eprintln!("usage: driver answer | sample | zero-signs | generate SEED FROM COUNT [MODULE]");
             ExitCode::from(2)
         }
     }
@@ -56,6 +58,19 @@ fn answer() -> io::Result<()> {
         write_line(&mut out, &calls::answer(number, &words))?;
     }
     out.flush()
+}
+
+/// For each number of the calls on standard input that compare grids, how many pairs differ in the sign of a zero alone.
+fn zero_signs() -> io::Result<()> {
+    let mut calls = Reader(BufReader::with_capacity(1 << 16, io::stdin().lock()));
+    let mut counts = zero_signs::Counts::new();
+    while let Some((number, words)) = calls.call() {
+        zero_signs::count(&mut counts, number, &words);
+    }
+    let mut out = io::stdout().lock();
+    counts.into_iter().try_for_each(|(number, [lat, lon, both, step])| {
+        writeln!(out, "{number:x} {lat} {lon} {both} {step}")
+    })
 }
 
 /// The calls of a seed's list from number FROM on, where a build is several; None where the words are no such list.

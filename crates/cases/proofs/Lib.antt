@@ -1,3 +1,4 @@
 -- The theorems that cover the tables.
 pub mod Table
 pub mod Grids
+pub mod Equal

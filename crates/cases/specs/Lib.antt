@@ -1,3 +1,4 @@
 -- Document 01's [P] cases: read Cases; the theorem is `every-case` of proofs/Table. A grid's refusals: Grids, and `every-grid` of proofs/Grids.
 pub mod Cases
 pub mod Grids
+pub mod Equal
