@@ -6,14 +6,15 @@ use native.Mathlib.Nat.{pos-of-ne-zero, div-add-mod', mul-one, mul-le-mul-left}
 use native.Mathlib.Omega.{arith}
 use borrow.Author.Tests.{eqb-true, eqb-false, not-false}
 use lib.Dec.{eqb}
+use lib.Ieee.Fits.{mul-fits}
 use Rattle.refusal.proofs.Tests.{both, neither}
 use Rattle.refusal.proofs.Chains.{first-passed, answered-passed}
 use Rattle.refusal.specs.Refusal.{answered, first, notItsMakers, factorNotDividing}
 use Rattle.grid.specs.declared.Grid.{Grid}
 use Rattle.grid.specs.Grid.{limit, gridRefusal, validGrid, sameGrid, gridNew}
 use Rattle.grid.proofs.Valid.{grid-sized, valid-lon}
-use Rattle.grid.proofs.Same.{same-sizes, same-self}
-use Rattle.grid.proofs.Wrapped.{remade-valid}
+use Rattle.grid.proofs.Same.{Binary64, same-sizes, same-self, same-is}
+use Rattle.grid.proofs.Wrapped.{remade-valid, wrap-fits}
 use Rattle.decimation.specs.declared.Decimation.{Decimation}
 use Rattle.decimation.specs.Decimation.{offFactor, coarsened, coarseGrid, factorRefusal, decimationOf, decimationNew, validDecimation}
 
@@ -63,6 +64,15 @@ valid-parts d e =
     let p = both _ (sameGrid (d .grid) (coarseGrid (d .source) (d .factor))) e in
     let q = both (validGrid (d .source)) (eqb (factorRefusal (d .source) (d .factor)) 0) (p .0) in
     record { source = q .0; factored = eqb-true _ _ (q .1); same = p .1 }
+
+-- 22 is exact: a decimation of binary64 values that passes is the one that its maker gives
+pub valid-made : (d : Decimation) → Binary64 (d .source) → Binary64 (d .grid) → validDecimation d ≡ true → decimationNew (d .source) (d .factor) ≡ answered d
+unfolding decimationNew coarseGrid coarsened
+valid-made d s c e =
+    let p = valid-parts d e in
+    let lon = wrap-fits (d .source .lon) (s .lon) in
+    let own : Binary64 (coarseGrid (d .source) (d .factor)) = record { lat = s .lat; lon = lon; lon-step = mul-fits _ _ _; lat-step = mul-fits _ _ _ } in
+    rw (p .source, p .factored, ← same-is (d .grid) (coarseGrid (d .source) (d .factor)) c own (p .same))
 
 -- the sizes of its grids: the coarse grid's times the factor are the source's
 pub record Framed (d : Decimation) : Type 0 where
