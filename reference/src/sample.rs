@@ -29,6 +29,7 @@ pub fn calls() -> Vec<Vec<u64>> {
     }
     calls.push(of_lists(0x12, &[&[FNV_OFFSET_BASIS], &[]]));
     calls.extend(examples());
+    calls.extend(zeros());
     for (module, count, longest) in SEEDED {
         let numbers = numbers_of(module).unwrap_or_default();
         let all = (0..).map(|index| generate::calls(1, index, &numbers));
@@ -112,6 +113,30 @@ fn examples() -> Vec<Vec<u64>> {
         let words = [&grid[..], &grid, &centre, &[row, widths.len() as u64]].concat();
         let columns = [[column, 0, 0, 0, 0], [4, 0, 0, 0, 0]].concat();
         calls.push(of_lists(0x80, &[&words, &table, &widths, &columns]));
+    }
+    calls
+}
+
+/// Document 02's C-20: two grids whose origins have zeros of any signs, compared, as source and coarse grid of a builder,
+/// and as a table's and a kernel's.
+fn zeros() -> Vec<Vec<u64>> {
+    let origins = [[0.0, 0.0], [-0.0, 0.0], [0.0, -0.0], [-0.0, -0.0]];
+    let grid = |[lat, lon]: [f64; 2], k: u64| {
+        [vec![4 / k, 2 / k], bits([lat, lon, 90.0 * k as f64, -45.0 * k as f64])].concat()
+    };
+    let columns = [[1, 0, 0, 0, 0], [4, 0, 0, 0, 0]].concat();
+    let mut calls = Vec::new();
+    for (a, b) in origins.iter().flat_map(|&a| origins.map(|b| (a, b))) {
+        calls.push([vec![0x3c], grid(a, 1), grid(b, 1)].concat());
+        for k in [1, 2] {
+            let numbers = [k, 0, 0, FNV_OFFSET_BASIS, 0, 0, 0, 0];
+            let builder = [grid(a, 1), grid(b, k), numbers.to_vec()].concat();
+            let (coarse, table) = (vec![0; 4 / k as usize + 1], vec![0; 15 - 9 * (k as usize - 1)]);
+            calls.push(of_lists(0x51, &[&builder, &[0; 5], &[0; 5], &coarse, &table, &[1, 2, 3, 4]]));
+            calls.push(of_lists(0x52, &[&builder, &[0; 5], &[0; 5], &coarse, &table]));
+        }
+        let words = [grid(a, 1), grid(b, 1), vec![0, 1.0f64.to_bits(), 0, 1]].concat();
+        calls.push(of_lists(0x80, &[&words, &[0; 15], &[0], &columns]));
     }
     calls
 }

@@ -1,1 +1,1 @@
-// Document 01's [P] cases: a table and a theorem, no code.
+// Document 01's [P] cases, a grid's refusals and equal grids: tables and their theorems, no code.
