@@ -60,7 +60,7 @@ fn answer() -> io::Result<()> {
     out.flush()
 }
 
-/// For each number of the calls on standard input that compare grids, how many pairs differ in the sign of a zero alone.
+/// For the calls on standard input that compare grids, by number, how many pairs differ in the sign of a zero alone.
 fn zero_signs() -> io::Result<()> {
     let mut calls = Reader(BufReader::with_capacity(1 << 16, io::stdin().lock()));
     let mut counts = zero_signs::Counts::new();
@@ -68,9 +68,9 @@ fn zero_signs() -> io::Result<()> {
         zero_signs::count(&mut counts, number, &words);
     }
     let mut out = io::stdout().lock();
-    counts.into_iter().try_for_each(|(number, [lat, lon, both, step])| {
-        writeln!(out, "{number:x} {lat} {lon} {both} {step}")
-    })
+    counts
+        .into_iter()
+        .try_for_each(|(name, [lat, lon, both, step])| writeln!(out, "{name} {lat} {lon} {both} {step}"))
 }
 
 /// The calls of a seed's list from number FROM on, where a build is several; None where the words are no such list.

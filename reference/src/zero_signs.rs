@@ -6,22 +6,25 @@ use crate::refusals;
 use crate::words::{list, Arguments};
 use std::collections::BTreeMap;
 
-/// For a call's number: pairs that differ in the origin's latitude alone, its longitude alone, both, and in a step.
-pub type Counts = BTreeMap<u64, [u64; 4]>;
+/// For a call's number, with a word where its builder's factor is above 1: pairs that differ in the origin's latitude
+/// alone, its longitude alone, both, and in a step.
+pub type Counts = BTreeMap<String, [u64; 4]>;
 
 /// The grids that a call compares: two that it is given, or a builder's coarse grid and the one that its source makes.
-fn compared(number: u64, call: &[u64]) -> Option<(Grid, Grid)> {
+fn compared(number: u64, call: &[u64]) -> Option<(String, Grid, Grid)> {
     let two = |words: &[u64]| {
         let words = &mut Arguments(words);
-        (grid(words), grid(words))
+        Some((format!("{number:x}"), grid(words), grid(words)))
     };
     match number {
-        0x3c => Some(two(call)),
+        0x3c => two(call),
         0x51 | 0x52 => {
             let d = builder(list(call, 0)).decimation;
-            refusals::new_decimation(d.source, d.factor).ok().map(|again| (d.grid, again.grid))
+            let again = refusals::new_decimation(d.source, d.factor).ok()?;
+            let decimated = if d.factor > 1 { "-decimated" } else { "" };
+            Some((format!("{number:x}{decimated}"), d.grid, again.grid))
         }
-        0x80 => Some(two(list(call, 0))),
+        0x80 => two(list(call, 0)),
         _ => None,
     }
 }
@@ -32,7 +35,7 @@ fn equal_numbers(a: &Grid, b: &Grid) -> bool {
 }
 
 pub fn count(counts: &mut Counts, number: u64, call: &[u64]) {
-    let Some((a, b)) = compared(number, call).filter(|(a, b)| equal_numbers(a, b) && a != b) else {
+    let Some((name, a, b)) = compared(number, call).filter(|(_, a, b)| equal_numbers(a, b) && a != b) else {
         return;
     };
     let (a, b) = (a.float_bits(), b.float_bits());
@@ -41,5 +44,5 @@ pub fn count(counts: &mut Counts, number: u64, call: &[u64]) {
         (true, true, false) => 2,
         (lat, _, false) => usize::from(!lat),
     };
-    counts.entry(number).or_default()[kind] += 1;
+    counts.entry(name).or_default()[kind] += 1;
 }
