@@ -3,16 +3,14 @@ use Prim.Native.Nat.{ℕ}
 use mathlib.Core.Bool.{cond}
 use mathlib.Core.List.{List, [], _∷_}
 use lib.ListN.{replicate}
-use lib.Ieee.{Float, nan, neg}
+use lib.Ieee.{Float, nan, binary64, neg, ofBits}
 use Rattle.float.specs.Float.{f64zero, f64one}
 use Rattle.raster.specs.Raster.{noTallies}
 use Rattle.raster.specs.Example.{exampleMark, firstRow}
 use Rattle.grid.specs.declared.Grid.{Grid}
 use Rattle.grid.specs.Grid.{sameGrid}
 use Rattle.decimation.specs.Decimation.{coarseGrid}
-use Rattle.builder.specs.declared.Builder.{Builder}
-use Rattle.builder.specs.Build.{Buffers, buffers, rowCall}
-use Rattle.kernel.specs.declared.Kernel.{Kernel}
+use Rattle.builder.specs.Build.{buffers, rowCall}
 use Rattle.circle.specs.Circle.{circlePopulation}
 use Rattle.cases.specs.Cases.{Case, numberOf}
 
@@ -25,6 +23,10 @@ from lat lon = record { width = 4; height = 2; lat = lat; lon = lon; «lon_step�
 
 abbrev stepping : Float → Float → Grid
 stepping lonStep latStep = record { width = 4; height = 2; lat = f64zero; lon = f64zero; «lon_step» = lonStep; «lat_step» = latStep }
+
+-- and one of that size
+abbrev sized : ℕ → ℕ → Grid
+sized width height = record { width = width; height = height; lat = f64zero; lon = f64zero; «lon_step» = f64one; «lat_step» = neg f64one }
 
 abbrev same : Grid → Grid → ℕ
 same a b = cond (sameGrid a b) 1 0
@@ -60,6 +62,13 @@ equals =
           ∷ same (from nan f64zero) (from nan f64zero) ∷ [];
       says = 1 ∷ 1 ∷ 1 ∷ [];
     }
+    -- another width, another height; a latitude and a longitude that differ in the last bit
+    ∷ record {
+      gives =
+          same (sized 4 2) (sized 5 2) ∷ same (sized 4 2) (sized 4 3) ∷ same (from f64one f64one) (from (ofBits binary64 0x3ff0_0000_0000_0001) f64one)
+          ∷ same (from f64one f64one) (from f64one (ofBits binary64 0x3ff0_0000_0000_0001)) ∷ [];
+      says = 0 ∷ 0 ∷ 0 ∷ 0 ∷ [];
+    }
     -- another sign of a zero: in the latitude, in the longitude, in both; in either step
     ∷ record {
       gives =
@@ -73,7 +82,7 @@ equals =
       gives = rowOn f64zero f64zero ∷ rowOn minusZero f64zero ∷ rowOn f64zero minusZero ∷ rowOn minusZero minusZero ∷ [];
       says = 0 ∷ 22 ∷ 22 ∷ 22 ∷ [];
     }
-    -- 21: so is a kernel's grid the table's; it comes ahead of a column off the grid
+    -- 21: likewise a kernel's grid and the table's; it comes ahead of a column off the grid, 16
     ∷ record {
       gives =
           circleOn f64zero f64zero 0 ∷ circleOn minusZero f64zero 0 ∷ circleOn f64zero minusZero 0 ∷ circleOn minusZero minusZero 0
