@@ -9,9 +9,10 @@ use native.Mathlib.Omega.{arith}
 use borrow.Author.Tests.{eqb-true, eqb-false, leb-true, ltb-false, eq-eqb, ne-eqb, le-leb, lt-leb, le-ltb, not-false}
 use lib.Dec.{eqb, leb, ltb}
 use lib.ListN.{length}
-use Rattle.refusal.proofs.Tests.{both}
+use Rattle.refusal.proofs.Tests.{both, neither}
 use Rattle.refusal.proofs.Chains.{first-passed}
-use Rattle.refusal.specs.Refusal.{first, passed, unlessRefused, wrongBufferLength, rowAfterLast, wrongRowLength, finishBeforeLast, notItsMakers}
+use Rattle.refusal.specs.Refusal.{first, passed, unlessRefused, notItsMakers, wrongTableLength, wrongAccumulatorLength}
+use Rattle.refusal.specs.Refusal.{wrongCoarseLength, rowAfterLast, wrongRowLength, finishBeforeLast}
 use Rattle.raster.specs.Raster.{cellsOf, rowTallies}
 use Rattle.raster.proofs.Tallies.{cells-of-row, cells-of-sum}
 use Rattle.grid.specs.declared.Grid.{Grid}
@@ -22,8 +23,8 @@ use Rattle.decimation.specs.Decimation.{factorRefusal, decimationOf, validDecim
 use Rattle.decimation.proofs.Factors.{Framed, framed, decimation-valid}
 use Rattle.builder.specs.declared.Builder.{Builder}
 use Rattle.builder.specs.declared.Lengths.{Lengths}
-use Rattle.builder.specs.Build.{Buffers, lengthsOf, rightLengths, lentRefusal, validBuilder, startRefusal, rowRefusal, finishRefusal, firstBuilder}
-use Rattle.builder.specs.Build.{builderAfter}
+use Rattle.builder.specs.Build.{Buffers, lengthsOf, offTable, offRows, offCoarse, lentRefusal, validBuilder}
+use Rattle.builder.specs.Build.{startRefusal, firstBuilder, rowRefusal, builderAfter, finishRefusal}
 use Rattle.builder.specs.private.Room.{Sized}
 
 -- ---- a builder
@@ -60,34 +61,32 @@ few-cells r w h k = omega (arith, mul-le-mul h k)
 -- ---- lengths
 
 module _ (d : Decimation) (lent : Lengths) where
-  sized-read : rightLengths d lent ≡ true → Sized d lent
-  unfolding rightLengths
-  sized-read e =
-      let p = both _ (eqb (lent .table) (tableLength (d .grid .width) (d .grid .height))) e in
-      let q = both _ (eqb (lent .coarse) (suc (d .grid .width))) (p .0) in
-      let r = both (eqb (lent .acc) (suc (d .source .width))) (eqb (lent .corr) (suc (d .source .width))) (q .0) in
-      record { acc = eqb-true _ _ (r .0); corr = eqb-true _ _ (r .1); coarse = eqb-true _ _ (q .1); table = eqb-true _ _ (p .1) }
-
-  sized-right : Sized d lent → rightLengths d lent ≡ true
-  unfolding rightLengths
-  sized-right l =
-      rw (
-        eq-eqb (lent .acc) (suc (d .source .width)) (l .acc),
-        eq-eqb (lent .corr) (suc (d .source .width)) (l .corr),
-        eq-eqb (lent .coarse) (suc (d .grid .width)) (l .coarse),
-        eq-eqb (lent .table) (tableLength (d .grid .width) (d .grid .height)) (l .table),
-      )
-
-  -- the checks of the lengths are passed exactly if the lengths are right
+  -- 11, 29 and 30 are passed exactly if the four lengths are right
   pub lent-passed : (rest : ℕ) → lentRefusal d lent rest ≡ 0 → Sized d lent × (rest ≡ 0)
   unfolding lentRefusal
   lent-passed rest e =
-      let p = first-passed (not (rightLengths d lent)) wrongBufferLength rest tt e in
-      (sized-read (not-false (rightLengths d lent) (p .0)), p .1)
+      let p11 = first-passed (offTable d lent) wrongTableLength _ tt e in
+      let p29 = first-passed (offRows d lent) wrongAccumulatorLength _ tt (p11 .1) in
+      let p30 = first-passed (offCoarse d lent) wrongCoarseLength rest tt (p29 .1) in
+      let rows = neither (not (eqb (lent .acc) (suc (d .source .width)))) _ (p29 .0) in (
+        record {
+          acc = eqb-true _ _ (not-false _ (rows .0));
+          corr = eqb-true _ _ (not-false _ (rows .1));
+          coarse = eqb-true _ _ (not-false _ (p30 .0));
+          table = eqb-true _ _ (not-false _ (p11 .0));
+        },
+        p30 .1,
+      )
 
   pub lent-goes-on : (rest : ℕ) → Sized d lent → lentRefusal d lent rest ≡ rest
   unfolding lentRefusal
-  lent-goes-on rest l = rw (sized-right l)
+  lent-goes-on rest l =
+      rw (
+        eq-eqb (lent .table) (tableLength (d .grid .width) (d .grid .height)) (l .table),
+        eq-eqb (lent .acc) (suc (d .source .width)) (l .acc),
+        eq-eqb (lent .corr) (suc (d .source .width)) (l .corr),
+        eq-eqb (lent .coarse) (suc (d .grid .width)) (l .coarse),
+      )
 
 -- ---- a call that is not refused
 

@@ -1,12 +1,13 @@
 -- Document 01, 'Building' and 'When a call refuses': start, row and finish, each with everything that it is lent as it is left.
 use mathlib.Core.List.{List}
-use mathlib.Core.Bool.{Bool, not, cond, _&&_}
+use mathlib.Core.Bool.{Bool, not, cond, _&&_, _||_}
 use Prim.Native.Nat.{ℕ, suc, _*_, _/_, _%_}
 use lib.Dec.{eqb, leb, ltb}
 use lib.ListN.{length, replicate, getD}
 use lib.Ieee.{Float, nan}
 use Rattle.refusal.specs.Refusal.{Outcome, answered, refused, first, passed, outcome, unlessRefused}
-use Rattle.refusal.specs.Refusal.{notItsMakers, wrongBufferLength, rowAfterLast, wrongRowLength, finishBeforeLast}
+use Rattle.refusal.specs.Refusal.{notItsMakers, wrongTableLength, wrongAccumulatorLength, wrongCoarseLength}
+use Rattle.refusal.specs.Refusal.{rowAfterLast, wrongRowLength, finishBeforeLast}
 use Rattle.float.specs.Float.{f64zero}
 use Rattle.digest.specs.Digest.{firstDigest, digestOf}
 use Rattle.raster.specs.Raster.{sanitisedRow, rowTallies, plusTallies, noTallies, cellsOf}
@@ -47,16 +48,26 @@ abbrev pub finishOutcome : FinishAnswer → Outcome BuiltTable
 finishOutcome (finish.Finished t) = answered t
 finishOutcome (finish.Refused n) = refused n
 
--- accumulator and correction rows have width + 1 cells, a coarse row coarse width + 1, and the table those of the coarse grid
-unfoldable pub rightLengths : Decimation → Lengths → Bool
-rightLengths d lent =
-    eqb (lent .acc) (suc (d .source .width)) && eqb (lent .corr) (suc (d .source .width)) && eqb (lent .coarse) (suc (d .grid .width))
-    && eqb (lent .table) (tableLength (d .grid .width) (d .grid .height))
+-- ---- the lengths of what is lent (document 02, C-13)
 
--- 11, then the checks after it
+-- 11: the table hasn't the cells of one over the coarse grid
+abbrev pub offTable : Decimation → Lengths → Bool
+offTable d lent = not (eqb (lent .table) (tableLength (d .grid .width) (d .grid .height)))
+
+-- 29: accumulator or correction row hasn't width + 1 cells
+abbrev pub offRows : Decimation → Lengths → Bool
+offRows d lent = not (eqb (lent .acc) (suc (d .source .width))) || not (eqb (lent .corr) (suc (d .source .width)))
+
+-- 30: the coarse row hasn't coarse width + 1, at factor 1 too
+abbrev pub offCoarse : Decimation → Lengths → Bool
+offCoarse d lent = not (eqb (lent .coarse) (suc (d .grid .width)))
+
+-- those in their order, then the checks after them
 unfoldable pub lentRefusal : Decimation → Lengths → ℕ → ℕ
-unfolding rightLengths
-lentRefusal d lent rest = first (not (rightLengths d lent)) wrongBufferLength rest
+lentRefusal d lent rest =
+    first (offTable d lent) wrongTableLength (first (offRows d lent) wrongAccumulatorLength (first (offCoarse d lent) wrongCoarseLength rest))
+
+-- ---- a builder
 
 -- 22: a builder that its maker could give. Its source grid is valid and its coarse grid is the source's at that factor, its rows are at
 -- most the height, and its tallies add up to rows × width
@@ -70,7 +81,7 @@ pub record BuilderCall : Type 0 where
   pub answer : Outcome Builder
   pub buffers : Buffers
 
--- ---- start: 22, 10, the coarse grid's own 1 to 9, 11
+-- ---- start: 22, 10, the coarse grid's own 1 to 9, 11, 29, 30
 
 unfoldable pub startRefusal : Grid → ℕ → Lengths → ℕ
 unfolding lentRefusal
@@ -92,7 +103,7 @@ startCall g k nodata m =
     let n = startRefusal g k (lengthsOf m) in
     record { answer = outcome n (firstBuilder g k nodata); buffers = unlessRefused n (clearedBuffers (coarseGrid g k) m) m }
 
--- ---- row: 22, 11, 13, 12
+-- ---- row: 22, 11, 29, 30, 13, 12
 
 -- by the length of the row and those of the buffers
 unfoldable pub rowRefusal : Builder → ℕ → Lengths → ℕ
@@ -146,7 +157,7 @@ rowCall b row m =
 unfoldable pub rowLeft : Builder → List ℕ → Buffers → List ℕ
 rowLeft b row m = unlessRefused (rowRefusal b (length row) (lengthsOf m)) (sanitisedRow (b .nodata) row) row
 
--- ---- finish: 22, 11, 14
+-- ---- finish: 22, 11, 29, 30, 14
 
 unfoldable pub finishRefusal : Builder → Lengths → ℕ
 unfolding lentRefusal

@@ -2,33 +2,26 @@
 ghost use mathlib.Core.Path.{_≡_};
 ghost use mathlib.Core.Bool.{true};
 ghost use Rattle.decimation.specs.Decimation.{validDecimation};
-ghost use Rattle.builder.specs.Build.{rightLengths, lentRefusal, validBuilder, rowRefusal, finishRefusal};
+ghost use Rattle.builder.specs.Build.{lentRefusal, validBuilder, rowRefusal, finishRefusal};
 use crate::Builder;
 use crate::Lengths;
 use decimation::Decimation;
 use refusal::first;
 use table::Table;
 
-fn has_right_lengths(d: Decimation, lent: Lengths) -> bool
-    requires { ⌜ validDecimation d ≡ true ⌝ }
-    ensures { λ r. ⌜ r ≡ rightLengths d lent ⌝ }
-{
-    let row = d.source.width as usize + 1;
-    let coarse = d.grid.width as usize + 1;
-    let cells = Table::padded_len(d.grid);
-    (lent.acc == row) & (lent.corr == row) & (lent.coarse == coarse) & (lent.table == cells)
-}
-
-// The number for a length that is wrong, else that of the checks after it.
+// The number for the first length that is wrong, else that of the checks after them.
 pub(crate) fn lent_refusal(d: Decimation, lent: Lengths, rest: u32) -> u32
     requires { ⌜ validDecimation d ≡ true ⌝ }
     ensures { λ r. ⌜ r ≡ lentRefusal d lent rest ⌝ }
 {
-    first(
-        !has_right_lengths(d, lent),
-        refusal::WRONG_BUFFER_LENGTH,
-        rest,
-    )
+    let wide = d.source.width as usize + 1;
+    let narrow = d.grid.width as usize + 1;
+    let off_table = lent.table != Table::padded_len(d.grid);
+    let off_rows = (lent.acc != wide) | (lent.corr != wide);
+    let off_coarse = lent.coarse != narrow;
+    let n30 = first(off_coarse, refusal::WRONG_COARSE_LENGTH, rest);
+    let n29 = first(off_rows, refusal::WRONG_ACCUMULATOR_LENGTH, n30);
+    first(off_table, refusal::WRONG_TABLE_LENGTH, n29)
 }
 
 impl Builder {

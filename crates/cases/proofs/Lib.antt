@@ -2,3 +2,4 @@
 pub mod Table
 pub mod Grids
 pub mod Equal
+pub mod Lengths

@@ -14,7 +14,7 @@ use refusal::COLUMN_OFF_GRID;
 use refusal::GRIDS_DIFFER;
 use refusal::NOT_ITS_MAKERS;
 use refusal::PASSED;
-use refusal::WRONG_BUFFER_LENGTH;
+use refusal::WRONG_TABLE_LENGTH;
 use refusal::first;
 use table::PopulationAnswer;
 use table::RowBand;
@@ -87,7 +87,7 @@ fn circle_refusal(table: Table, cells: &[f64], k: Kernel, half_widths: &[u32], c
     let wrong = !table.is_over(cells);
     let differ = !g.same(other);
     let off = first(g.width <= centre.0, COLUMN_OFF_GRID, PASSED);
-    let n = first(wrong, WRONG_BUFFER_LENGTH, first(differ, GRIDS_DIFFER, off));
+    let n = first(wrong, WRONG_TABLE_LENGTH, first(differ, GRIDS_DIFFER, off));
     first(!records, NOT_ITS_MAKERS, n)
 }
 

@@ -8,7 +8,7 @@ use borrow.Author.Tests.{leb-true, le-leb, leb-false, lt-leb, ltb-true, lt-ltb, 
 use lib.Dec.{leb, ltb}
 use lib.ListN.{length}
 use lib.Ieee.{Float, nan}
-use Rattle.refusal.specs.Refusal.{answered, first, passed, notItsMakers, wrongBufferLength, rowOffGrid, columnOffGrid}
+use Rattle.refusal.specs.Refusal.{answered, first, passed, notItsMakers, wrongTableLength, rowOffGrid, columnOffGrid}
 use Rattle.refusal.proofs.Chains.{first-passed, answered-passed}
 use Rattle.refusal.proofs.Tests.{both}
 use Rattle.grid.specs.declared.Col.{Col}
@@ -60,7 +60,7 @@ module _ (g : Grid) (cells : List Float) (rows : RowBand) (cols : ColSpan) where
   unfolding rectangleRefusal
   on-grid e =
       let p22 = first-passed (not (validGrid g && leb (rows .north .0) (rows .south .0))) notItsMakers _ tt e in
-      let p11 = first-passed (not (rightTable g cells)) wrongBufferLength _ tt (p22 .1) in
+      let p11 = first-passed (not (rightTable g cells)) wrongTableLength _ tt (p22 .1) in
       let p15 = first-passed (leb (g .height) (rows .south .0)) rowOffGrid _ tt (p11 .1) in
       let p16 = first-passed (not (spanOnGrid (g .width) cols)) columnOffGrid passed tt (p15 .1) in
       let made = both (validGrid g) (leb (rows .north .0) (rows .south .0)) (not-false _ (p22 .0)) in

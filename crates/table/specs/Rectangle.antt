@@ -4,7 +4,7 @@ use mathlib.Core.Bool.{Bool, true, not, cond, _&&_}
 use Prim.Native.Nat.{ℕ, suc, min, max}
 use lib.Dec.{leb, ltb}
 use lib.Ieee.{Float, nan, binary64, add, sub}
-use Rattle.refusal.specs.Refusal.{Outcome, answered, refused, first, passed, outcome, notItsMakers, wrongBufferLength, rowOffGrid, columnOffGrid}
+use Rattle.refusal.specs.Refusal.{Outcome, answered, refused, first, passed, outcome, notItsMakers, wrongTableLength, rowOffGrid, columnOffGrid}
 use Rattle.grid.specs.declared.Grid.{Grid}
 use Rattle.grid.specs.Grid.{validGrid}
 use Rattle.table.specs.Place.{corner, rightTable}
@@ -52,7 +52,7 @@ heldSum g cells rows cols =
 unfoldable pub rectangleRefusal : Grid → List Float → RowBand → ColSpan → ℕ
 rectangleRefusal g cells rows cols =
     first (not (validGrid g && leb (rows .north .0) (rows .south .0))) notItsMakers
-    (first (not (rightTable g cells)) wrongBufferLength
+    (first (not (rightTable g cells)) wrongTableLength
     (first (leb (g .height) (rows .south .0)) rowOffGrid
     (first (not (spanOnGrid (g .width) cols)) columnOffGrid passed)))
 

@@ -2,7 +2,7 @@
 use mathlib.Core.List.{List}
 use mathlib.Core.Bool.{not}
 use lib.Ieee.{Float}
-use Rattle.refusal.specs.Refusal.{Outcome, answered, refused, first, passed, outcome, notItsMakers, wrongBufferLength}
+use Rattle.refusal.specs.Refusal.{Outcome, answered, refused, first, passed, outcome, notItsMakers, wrongTableLength}
 use Rattle.grid.specs.declared.Grid.{Grid}
 use Rattle.grid.specs.Grid.{validGrid}
 use Rattle.table.specs.Place.{rightTable}
@@ -18,4 +18,4 @@ tableOutcome (table.Refused n) = refused n
 -- `Table::new`: 22, 11
 unfoldable pub tableNew : Grid → List Float → Outcome Table
 tableNew g cells =
-    outcome (first (not (validGrid g)) notItsMakers (first (not (rightTable g cells)) wrongBufferLength passed)) (record { grid = g })
+    outcome (first (not (validGrid g)) notItsMakers (first (not (rightTable g cells)) wrongTableLength passed)) (record { grid = g })

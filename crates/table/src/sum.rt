@@ -17,7 +17,7 @@ use refusal::COLUMN_OFF_GRID;
 use refusal::NOT_ITS_MAKERS;
 use refusal::PASSED;
 use refusal::ROW_OFF_GRID;
-use refusal::WRONG_BUFFER_LENGTH;
+use refusal::WRONG_TABLE_LENGTH;
 use refusal::first;
 
 // Rows north to south, both in, and columns `from` to the one before `to`, by the table's cells at the four corners. Where
@@ -114,7 +114,7 @@ impl Table {
         let past = grid.height <= rows.south.0;
         let off = !span_on_grid(grid.width, cols);
         let n = first(past, ROW_OFF_GRID, first(off, COLUMN_OFF_GRID, PASSED));
-        first(wrong, WRONG_BUFFER_LENGTH, n)
+        first(wrong, WRONG_TABLE_LENGTH, n)
     }
 
     // The people of a rectangle.
