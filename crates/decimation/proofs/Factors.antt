@@ -5,14 +5,14 @@ use Prim.Native.Nat.{ℕ, _*_, _/_, _%_, _≤_, _<_}
 use native.Mathlib.Nat.{pos-of-ne-zero, div-add-mod', mul-one, mul-le-mul-left}
 use native.Mathlib.Omega.{arith}
 use borrow.Author.Tests.{eqb-true, eqb-false, not-false}
-use lib.Dec.{eqb}
+use lib.Dec.{eqb, lit≤}
 use lib.Ieee.Fits.{mul-fits}
 use Rattle.refusal.proofs.Tests.{both, neither}
-use Rattle.refusal.proofs.Chains.{first-passed, answered-passed}
+use Rattle.refusal.proofs.Chains.{first-passed, answered-passed, first-only}
 use Rattle.refusal.specs.Refusal.{answered, first, notItsMakers, factorNotDividing}
 use Rattle.grid.specs.declared.Grid.{Grid}
 use Rattle.grid.specs.Grid.{limit, gridRefusal, validGrid, sameGrid, gridNew}
-use Rattle.grid.proofs.Valid.{grid-sized, valid-lon}
+use Rattle.grid.proofs.Valid.{grid-sized, grid-numbers, valid-lon}
 use Rattle.grid.proofs.Same.{Binary64, same-sizes, same-self, same-is}
 use Rattle.grid.proofs.Wrapped.{remade-valid, wrap-fits}
 use Rattle.decimation.specs.declared.Decimation.{Decimation}
@@ -39,6 +39,12 @@ module _ (g : Grid) (k : ℕ) where
   parts : factorRefusal g k ≡ 0 → (offFactor g k ≡ false) × (gridRefusal (coarsened g k) ≡ 0)
   unfolding factorRefusal
   parts e = first-passed (offFactor g k) factorNotDividing (gridRefusal (coarsened g k)) tt e
+
+  -- a factor is refused with 10 or the coarse grid's own 1 to 9
+  pub factor-numbers : factorRefusal g k ≤ 10
+  unfolding factorRefusal
+  factor-numbers =
+      first-only (λ n. n ≤ 10) (offFactor g k) factorNotDividing (gridRefusal (coarsened g k)) (lit≤ tt) (omega (arith, grid-numbers (coarsened g k)))
 
   -- the coarse grid is one that its maker could give
   pub coarse-valid : validGrid g ≡ true → factorRefusal g k ≡ 0 → validGrid (coarseGrid g k) ≡ true

@@ -1,4 +1,5 @@
--- Read Theorem: `display`.
+-- Read Theorem: `display`; Numbers: `numbers-shown`.
 mod Shown
 mod Built
 pub mod Theorem
+pub mod Numbers

@@ -1,8 +1,11 @@
 -- FROM THE CARD TO THE DISPLAY: what `count` shows of a card whose cells are whole numbers of people, by document 01's ledger alone: no table, no
 -- builder and no float sum stands here. Definitions only.
 use Prim.Native.Nat.{ℕ, zero, suc}
+use mathlib.Core.Bool.{Bool, _&&_, _||_}
 use mathlib.Core.List.{List, [], _∷_, _++_}
+use lib.Dec.{T, leb}
 use lib.ListN.{replicate}
+use Rattle.refusal.specs.Refusal.{Outcome, answered, refused}
 use Rattle.grid.specs.declared.Grid.{Grid}
 use Rattle.grid.specs.declared.Row.{Row}
 use Rattle.radius.specs.declared.RadiusKm.{RadiusKm}
@@ -57,3 +60,18 @@ abbrev pub displayed : List ℕ → Header → List ℕ
 displayed card h =
     let l = cardLedger card h in
     rowsLine (h .decimation .source .height) ++ cellsLine (l .tallies) ++ (totalWord ++ decimal (sumIn 0 l) ++ newline) ++ circlesShown card h (h .circles)
+
+-- ---- the numbers that a card's text can have, as docs/DISPLAY.md lists them
+
+-- of a card: 1 to 10, 25 to 27
+abbrev pub ofCard : ℕ → Bool
+ofCard n = leb n 10 || (leb 25 n && leb n 27)
+
+-- of a circle: 15 to 19, or 0 where it is counted
+abbrev pub ofCircle : ℕ → Bool
+ofCircle n = leb n 0 || (leb 15 n && leb n 19)
+
+-- a card that is refused has its own number, and an accepted one those of its circles
+abbrev pub NumbersShown : List ℕ → Outcome Header → Type 0
+NumbersShown card (refused n) = T (ofCard n)
+NumbersShown card (answered h) = (i : ℕ) → T (ofCircle (circleChecks (h .decimation .grid) (circleAt card h i)))
