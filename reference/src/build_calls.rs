@@ -8,6 +8,7 @@ use crate::table_calls::{cells_of, patterns_of, tallied};
 use crate::words::{lent, list, Arguments};
 
 /// The buffers that a build is lent: accumulator, corrections, coarse row, table.
+#[derive(Clone)]
 pub struct Lent(pub [Vec<f64>; 4]);
 
 impl Lent {
@@ -17,7 +18,7 @@ impl Lent {
     }
 }
 
-fn lent_by(call: &[u64]) -> Lent {
+pub fn lent_by(call: &[u64]) -> Lent {
     Lent([1, 2, 3, 4].map(|k| lent(call, k).iter().map(|&bits| f64::from_bits(bits)).collect()))
 }
 

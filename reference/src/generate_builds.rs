@@ -8,6 +8,7 @@ use crate::refusals;
 use crate::table::{padded_len, Builder, Decimation};
 use crate::table_calls::{cells_of, tallied};
 use crate::words::listed;
+use std::array;
 
 /// The calls so far, and what they left: the builder's twenty words and the lent buffers.
 pub struct Walk {
@@ -19,8 +20,8 @@ pub struct Walk {
 impl Walk {
     /// At first the builder is the record of the grid at factor 1, and zeros. Entry i of each buffer has the pattern of
     /// the fill's low 63 bits, plus i.
-    pub fn new(g: &Grid, fill: u64, lengths: [u64; 4]) -> Self {
-        let filled = |n: u64| (0..n).map(|i| f64::from_bits((fill & !(1 << 63)) + i)).collect();
+    pub fn new(g: &Grid, fill: u64, lengths: [usize; 4]) -> Self {
+        let filled = |n: usize| (0..n).map(|i| f64::from_bits((fill & !(1 << 63)) + i as u64)).collect();
         let builder = [grid_words(g), grid_words(g), vec![1, 0, 0, 0, 0, 0, 0, 0]].concat();
         Self { calls: vec![], builder, lent: Lent(lengths.map(filled)) }
     }
@@ -53,12 +54,36 @@ impl Walk {
     pub fn finish(&mut self) {
         self.push(0x52, &self.builder.clone(), &[]);
     }
+
+    /// One call with buffers of other lengths, cut or filled up. The walk goes on with those that it had.
+    pub fn lending(&mut self, lengths: [usize; 4], call: impl FnOnce(&mut Self)) {
+        let kept = self.lent.clone();
+        for (buffer, length) in self.lent.0.iter_mut().zip(lengths) {
+            buffer.resize(length, 1.0);
+        }
+        call(self);
+        self.lent = kept;
+    }
+}
+
+/// Lengths of which the set's are wrong: shorter by one, longer by one, or 0. Bit k of the set is for length k.
+pub fn wrong_lengths(right: [usize; 4], set: u64, mut kind: impl FnMut() -> u64) -> [usize; 4] {
+    array::from_fn(|k| match (set >> k & 1, right[k]) {
+        (0, length) => length,
+        (_, length) => [length - 1, length + 1, 0][kind() as usize],
+    })
 }
 
 fn words_of(b: Builder) -> Vec<u64> {
     let numbers = [b.decimation.factor, b.nodata, b.rows].map(u64::from);
     let grids = [grid_words(&b.decimation.source), grid_words(&b.decimation.grid)].concat();
     [grids, numbers.to_vec(), vec![b.digest], tallied(b.tallies)].concat()
+}
+
+/// The lengths that a build asks: accumulator, corrections, coarse row, table.
+fn lengths(g: &Grid, coarse: &Grid) -> [usize; 4] {
+    let wide = g.width.min(100) as usize + 1;
+    [wide, wide, coarse.width.min(100) as usize + 1, padded_len(coarse).min(1200)]
 }
 
 impl Random {
@@ -89,22 +114,27 @@ impl Random {
         }
     }
 
-    /// The lengths that a build asks, or others: one of them, or two.
-    fn lengths(&mut self, g: &Grid, coarse: &Grid) -> [u64; 4] {
-        let wide = u64::from(g.width).min(100) + 1;
-        let table = padded_len(coarse) as u64;
-        let mut lengths = [wide, wide, u64::from(coarse.width).min(100) + 1, table.min(1200)];
-        let others = if self.chance(12) { 1 + self.below(4) / 3 } else { 0 };
-        for _ in 0..others {
-            let which = self.below(4) as usize;
-            lengths[which] = match self.below(4) {
-                0 => lengths[which] + 1,
-                1 => lengths[which].saturating_sub(1),
-                2 => self.below(100),
-                _ => 0,
-            };
+    /// Wrong lengths: any set of them, each one shorter, one longer or 0; or one that is another's or any.
+    fn wrong_lengths(&mut self, right: [usize; 4]) -> [usize; 4] {
+        if self.chance(8) {
+            let mut lengths = right;
+            let other = self.below(100) as usize;
+            lengths[self.below(4) as usize] = self.pick(&[right[0], right[2], right[3], other]);
+            return lengths;
         }
-        lengths
+        let set = 1 + self.below(15);
+        wrong_lengths(right, set, || self.below(3))
+    }
+
+    /// A start, a row or a finish with wrong lengths.
+    fn lend_wrongly(&mut self, walk: &mut Walk, right: [usize; 4], start: [u64; 2], row: &[u64]) {
+        let lengths = self.wrong_lengths(right);
+        let [factor, nodata] = start;
+        match self.below(3) {
+            0 => walk.lending(lengths, |walk| walk.start(factor, nodata)),
+            1 => walk.lending(lengths, |walk| walk.row(row)),
+            _ => walk.lending(lengths, Walk::finish),
+        }
     }
 
     /// A field of the builder becomes a word that its maker may not have put there.
@@ -169,8 +199,9 @@ impl Random {
     pub fn build(&mut self) -> Vec<Vec<u64>> {
         let (g, factor) = self.source();
         let coarse = Decimation::new(g, factor as u32).map_or(g, |d| d.grid);
-        let (fill, lengths) = (self.fill(), self.lengths(&g, &coarse));
-        let mut walk = Walk::new(&g, fill, lengths);
+        let right = lengths(&g, &coarse);
+        let lent = if self.chance(16) { self.wrong_lengths(right) } else { right };
+        let mut walk = Walk::new(&g, self.fill(), lent);
         let (nodata, cells) = (self.nodata(), self.cells());
         if !self.chance(32) {
             walk.start(factor, nodata);
@@ -192,6 +223,10 @@ impl Random {
                 2 => self.jump(&mut walk, &g),
                 3 => walk.start(factor, nodata),
                 4 => walk.calls.push(vec![0x53 + self.below(3)]),
+                6..=8 => {
+                    let row = self.build_row(&g, cells, nodata);
+                    self.lend_wrongly(&mut walk, right, [factor, nodata], &row);
+                }
                 _ => {}
             }
             walk.row(&self.build_row(&g, cells, nodata));
@@ -200,10 +235,14 @@ impl Random {
             walk.row(&self.build_row(&g, cells, nodata));
         }
         for _ in 0..self.below(4) {
-            match self.below(6) {
+            match self.below(8) {
                 0 => walk.row(&self.build_row(&g, cells, nodata)),
                 1 => self.jump(&mut walk, &g),
                 2 => self.forge(&mut walk, &g),
+                3 | 4 => {
+                    let row = self.build_row(&g, cells, nodata);
+                    self.lend_wrongly(&mut walk, right, [factor, nodata], &row);
+                }
                 _ => walk.finish(),
             }
         }

@@ -11,6 +11,7 @@ mod geodesy;
 mod grid;
 mod grid_calls;
 mod kernel;
+mod lengths;
 mod random;
 mod raster;
 mod refusals;
@@ -33,6 +34,7 @@ fn main() -> ExitCode {
         ["answer"] => Some(answer()),
         ["sample"] => Some(sample()),
         ["zero-signs"] => Some(zero_signs()),
+        ["lengths"] => Some(lengths()),
         ["generate", seed, from, count] => generate(seed, from, count, "all"),
         ["generate", seed, from, count, module] => generate(seed, from, count, module),
         _ => None,
@@ -44,7 +46,9 @@ fn main() -> ExitCode {
             ExitCode::FAILURE
         }
         None => {
-            eprintln!("usage: driver answer | sample | zero-signs | generate SEED FROM COUNT [MODULE]");
+            eprintln!(
+                "usage: driver answer | sample | zero-signs | lengths | generate SEED FROM COUNT [MODULE]"
+            );
             ExitCode::from(2)
         }
     }
@@ -71,6 +75,17 @@ fn zero_signs() -> io::Result<()> {
     counts
         .into_iter()
         .try_for_each(|(name, [lat, lon, both, step])| writeln!(out, "{name} {lat} {lon} {both} {step}"))
+}
+
+/// For the starts, rows and finishes on standard input, how many are refused for a length, and for which.
+fn lengths() -> io::Result<()> {
+    let mut calls = Reader(BufReader::with_capacity(1 << 16, io::stdin().lock()));
+    let mut counts = lengths::Counts::new();
+    while let Some((number, words)) = calls.call() {
+        lengths::count(&mut counts, number, &words);
+    }
+    let mut out = io::stdout().lock();
+    counts.into_iter().try_for_each(|(name, count)| writeln!(out, "{name} {count}"))
 }
 
 /// The calls of a seed's list from number FROM on, where a build is several; None where the words are no such list.

@@ -11,7 +11,7 @@ use crate::table::{
 /// A refusal's number.
 pub type Refusal = u64;
 
-const BUFFER_LENGTH: Refusal = 11;
+const TABLE_LENGTH: Refusal = 11;
 const ROW_LENGTH: Refusal = 12;
 const ROW_AFTER_LAST: Refusal = 13;
 const FINISH_BEFORE_LAST: Refusal = 14;
@@ -20,6 +20,8 @@ const COLUMN_OFF_GRID: Refusal = 16;
 const GRIDS_DIFFER: Refusal = 21;
 const NOT_ITS_MAKERS: Refusal = 22;
 const NO_CELL: Refusal = 23;
+const ACCUMULATOR_LENGTH: Refusal = 29;
+const COARSE_LENGTH: Refusal = 30;
 
 fn unless(fails: bool, number: Refusal) -> Result<(), Refusal> {
     if fails {
@@ -104,7 +106,7 @@ pub fn col(g: &Grid, col: u32) -> Result<Col, Refusal> {
 
 fn decimation(source: Grid, factor: u32) -> Result<Decimation, Refusal> {
     Decimation::new(source, factor).map_err(|error| match error {
-        TableError::PayloadLength => BUFFER_LENGTH,
+        TableError::PayloadLength => TABLE_LENGTH,
         TableError::Decimation => 10,
         TableError::DecimatedGrid(cause) => cause as Refusal,
     })
@@ -115,13 +117,12 @@ pub fn new_decimation(source: Grid, factor: u32) -> Result<Decimation, Refusal> 
     decimation(source, factor)
 }
 
+/// Document 02, C-13: the table, then accumulator and correction rows, then the coarse row, at factor 1 too.
 fn right_lengths(d: &Decimation, lent: &Buffers<'_>) -> Result<(), Refusal> {
-    let (wide, narrow) = (d.source.width as usize + 1, d.grid.width as usize + 1);
-    let right = lent.acc.len() == wide
-        && lent.corr.len() == wide
-        && lent.coarse.len() == narrow
-        && lent.table.len() == table::padded_len(&d.grid);
-    unless(!right, BUFFER_LENGTH)
+    let wide = d.source.width as usize + 1;
+    unless(lent.table.len() != table::padded_len(&d.grid), TABLE_LENGTH)?;
+    unless(lent.acc.len() != wide || lent.corr.len() != wide, ACCUMULATOR_LENGTH)?;
+    unless(lent.coarse.len() != d.grid.width as usize + 1, COARSE_LENGTH)
 }
 
 /// A builder that a start or a row call could give: its coarse grid is its source's at that factor, its rows are at
@@ -165,7 +166,7 @@ pub fn finish(b: &Builder, lent: &Buffers<'_>) -> Result<BuiltTable, Refusal> {
 pub fn population(g: &Grid, cells: &[f64], rows: RowBand, cols: ColSpan) -> Result<f64, Refusal> {
     made(g)?;
     unless(rows.north > rows.south, NOT_ITS_MAKERS)?;
-    let table = Table::new(*g, cells).map_err(|_| BUFFER_LENGTH)?;
+    let table = Table::new(*g, cells).map_err(|_| TABLE_LENGTH)?;
     unless(rows.south.0 >= g.height, ROW_OFF_GRID)?;
     if let ColSpan::Through { west, east } = cols {
         unless(west.0 >= g.width || east.0 >= g.width, COLUMN_OFF_GRID)?;
@@ -225,7 +226,7 @@ pub fn circle_population(
 ) -> Result<f64, Refusal> {
     made(g)?;
     let kernel = made_kernel(k, half_widths)?;
-    let table = Table::new(*g, cells).map_err(|_| BUFFER_LENGTH)?;
+    let table = Table::new(*g, cells).map_err(|_| TABLE_LENGTH)?;
     unless(*table.grid() != *kernel.grid(), GRIDS_DIFFER)?;
     circle::population(&table, &kernel, half_widths, column).map_err(off_grid)
 }

@@ -1,6 +1,6 @@
 // The stored sample: every call at the limits, then some of a seed's list.
 use crate::generate::{self, bits, numbers_of, HALVES, LIMITS, NANS};
-use crate::generate_builds::Walk;
+use crate::generate_builds::{self, Walk};
 use crate::geodesy::LatLon;
 use crate::grid::Grid;
 use crate::table::FNV_OFFSET_BASIS;
@@ -30,6 +30,7 @@ pub fn calls() -> Vec<Vec<u64>> {
     calls.push(of_lists(0x12, &[&[FNV_OFFSET_BASIS], &[]]));
     calls.extend(examples());
     calls.extend(zeros());
+    calls.extend(wrong_lengths());
     for (module, count, longest) in SEEDED {
         let numbers = numbers_of(module).unwrap_or_default();
         let all = (0..).map(|index| generate::calls(1, index, &numbers));
@@ -137,6 +138,31 @@ fn zeros() -> Vec<Vec<u64>> {
         }
         let words = [grid(a, 1), grid(b, 1), vec![0, 1.0f64.to_bits(), 0, 1]].concat();
         calls.push(of_lists(0x80, &[&words, &[0; 15], &[0], &columns]));
+    }
+    calls
+}
+
+/// Document 02's C-13: each set of wrong lengths, one shorter, one longer and 0, at a start, a row that is too short, a
+/// finish before the last row and a row after it.
+fn wrong_lengths() -> Vec<Vec<u64>> {
+    let origin = LatLon { lat: 90.0, lon: -180.0 };
+    let source = Grid { width: 2, height: 2, origin, lon_step: 180.0, lat_step: -90.0 };
+    let row = [0x3f80_0000, 0];
+    let mut calls = Vec::new();
+    for (factor, right) in [(1, [3, 3, 3, 9]), (2, [3, 3, 2, 4])] {
+        let mut walk = Walk::new(&source, 1, right);
+        let sets =
+            (1..16).flat_map(|set| [0, 1, 2].map(|kind| generate_builds::wrong_lengths(right, set, || kind)));
+        let sets: Vec<[usize; 4]> = sets.collect();
+        walk.start(factor, 0);
+        sets.iter().for_each(|&lengths| walk.lending(lengths, |walk| walk.start(factor, 0)));
+        sets.iter().for_each(|&lengths| walk.lending(lengths, |walk| walk.row(&[])));
+        walk.row(&row);
+        sets.iter().for_each(|&lengths| walk.lending(lengths, Walk::finish));
+        walk.row(&row);
+        sets.iter().for_each(|&lengths| walk.lending(lengths, |walk| walk.row(&[])));
+        walk.finish();
+        calls.extend(walk.calls);
     }
     calls
 }
