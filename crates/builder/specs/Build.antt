@@ -50,7 +50,7 @@ finishOutcome (finish.Refused n) = refused n
 
 -- ---- the lengths of what is lent (document 02, C-13)
 
--- 11: the table hasn't the cells of one over the coarse grid
+-- 11: the table hasn't (coarse width + 1) × (coarse height + 1) cells
 abbrev pub offTable : Decimation → Lengths → Bool
 offTable d lent = not (eqb (lent .table) (tableLength (d .grid .width) (d .grid .height)))
 
