@@ -3,7 +3,7 @@
 use Prim.Native.Nat.{ℕ, zero, suc}
 use mathlib.Core.Bool.{Bool, _&&_, _||_}
 use mathlib.Core.List.{List, [], _∷_, _++_}
-use lib.Dec.{T, leb}
+use lib.Dec.{T, eqb, leb}
 use lib.ListN.{replicate}
 use Rattle.refusal.specs.Refusal.{Outcome, answered, refused}
 use Rattle.grid.specs.declared.Grid.{Grid}
@@ -63,13 +63,13 @@ displayed card h =
 
 -- ---- the numbers that a card's text can have, as docs/DISPLAY.md lists them
 
--- of a card: 1 to 10, 25 to 27
+-- of a card: 1 to 10, 25 to 27; 0 refuses nothing
 abbrev pub ofCard : ℕ → Bool
 ofCard n = leb n 10 || (leb 25 n && leb n 27)
 
--- of a circle: 15 to 19, or 0 where it is counted
+-- of a circle: 15 to 19; at 0 it is counted
 abbrev pub ofCircle : ℕ → Bool
-ofCircle n = leb n 0 || (leb 15 n && leb n 19)
+ofCircle n = eqb n 0 || (leb 15 n && leb n 19)
 
 -- a card that is refused has its own number, and an accepted one those of its circles
 abbrev pub NumbersShown : List ℕ → Outcome Header → Type 0
