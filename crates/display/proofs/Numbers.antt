@@ -1,5 +1,5 @@
 -- The numbers that the display can show. Assumes nothing.
-use Prim.Native.Nat.{ℕ, _≤_}
+use Prim.Native.Nat.{ℕ, _≤_, _<_}
 use mathlib.Core.Path.{_≡_}
 use mathlib.Core.Bool.{not}
 use mathlib.Core.List.{List}
@@ -40,15 +40,17 @@ circle-numbers g c =
 abbrev OfCard : ℕ → Type 0
 OfCard n = T (ofCard n)
 
-up-to-10 : (n : ℕ) → n ≤ 10 → OfCard n
-up-to-10 n l = rw (le-leb n 10 l) tt
+up-to-10 : (n : ℕ) → n ≤ 10 → 0 < n → OfCard n
+up-to-10 n l q = rw (le-leb 1 n q, le-leb n 10 l) tt
 
 module _ (card : List ℕ) where
   with-header : (g : Grid) (h : Header) → RefusedOnly OfCard (withHeader card g h)
   with-header g h =
+      let P : ℕ → Type 0 = λ n. 0 < n → OfCard n in
       let sections = first (not (sectionsInside card h)) cardEndsEarly passed in
       outcome-only OfCard (first (tableTooLarge g) cardTooLarge sections) h
-      (first-only OfCard (tableTooLarge g) cardTooLarge sections tt (first-only OfCard (not (sectionsInside card h)) cardEndsEarly passed tt tt))
+      (first-only P (tableTooLarge g) cardTooLarge sections (λ _. tt)
+      (first-only P (not (sectionsInside card h)) cardEndsEarly passed (λ _. tt) (λ q. absurd (omega (arith, q)))))
 
   with-grid : (g : Grid) → gridNew (gridAt card) ≡ answered g → RefusedOnly OfCard (withGrid card g)
   with-grid g e =
