@@ -64,13 +64,18 @@ fn answer() -> io::Result<()> {
     out.flush()
 }
 
+/// Looks at the calls on standard input, to the last whole one.
+fn each_call(mut look: impl FnMut(u64, &[u64])) {
+    let mut calls = Reader(BufReader::with_capacity(1 << 16, io::stdin().lock()));
+    while let Some((number, words)) = calls.call() {
+        look(number, &words);
+    }
+}
+
 /// For the calls on standard input that compare grids, by number, how many pairs differ in the sign of a zero alone.
 fn zero_signs() -> io::Result<()> {
-    let mut calls = Reader(BufReader::with_capacity(1 << 16, io::stdin().lock()));
     let mut counts = zero_signs::Counts::new();
-    while let Some((number, words)) = calls.call() {
-        zero_signs::count(&mut counts, number, &words);
-    }
+    each_call(|number, words| zero_signs::count(&mut counts, number, words));
     let mut out = io::stdout().lock();
     counts
         .into_iter()
@@ -79,11 +84,8 @@ fn zero_signs() -> io::Result<()> {
 
 /// For the starts, rows and finishes on standard input, how many are refused for a length, and for which.
 fn lengths() -> io::Result<()> {
-    let mut calls = Reader(BufReader::with_capacity(1 << 16, io::stdin().lock()));
     let mut counts = lengths::Counts::new();
-    while let Some((number, words)) = calls.call() {
-        lengths::count(&mut counts, number, &words);
-    }
+    each_call(|number, words| lengths::count(&mut counts, number, words));
     let mut out = io::stdout().lock();
     counts.into_iter().try_for_each(|(name, count)| writeln!(out, "{name} {count}"))
 }
