@@ -153,9 +153,8 @@ fn report(card: &[u8], h: &Header) -> Result<String, Refusal> {
         refusals::build_row(&mut builder, &mut values, &mut lent)?;
     }
     let built = refusals::finish(&builder, &lent)?;
-    let t = built.tallies;
     let mut text = format!("rows {}\n", source.height);
-    _ = writeln!(text, "cells {} {} {} {}", t.nodata, t.unexpected_negative, t.zero, t.populated);
+    _ = writeln!(text, "cells {}", built.tallies.fields().map(|count| count.to_string()).join(" "));
     _ = writeln!(text, "total {}", shown(built.total));
     for i in 0..h.circles {
         let at = h.circles_at + 16 * i;

@@ -4,7 +4,7 @@ use crate::grid_calls::{fields, grid};
 use crate::raster::CellTallies;
 use crate::refusals::{self, Refusal};
 use crate::table::{Buffers, Builder, Decimation};
-use crate::table_calls::{cells_of, patterns_of, tallied};
+use crate::table_calls::{cells_of, patterns_of};
 use crate::words::{lent, list, Arguments};
 
 /// The buffers that a build is lent: accumulator, corrections, coarse row, table.
@@ -55,7 +55,7 @@ pub fn finish(call: &[u64]) -> Answer {
     }
 }
 
-/// A builder from its twenty words.
+/// A builder from its 21 words.
 pub fn builder(words: &[u64]) -> Builder {
     let words = &mut Arguments(words);
     let (source, coarse) = (grid(words), grid(words));
@@ -64,12 +64,7 @@ pub fn builder(words: &[u64]) -> Builder {
         nodata: words.next() as u32,
         rows: words.next() as u32,
         digest: words.next(),
-        tallies: CellTallies {
-            nodata: words.next(),
-            unexpected_negative: words.next(),
-            zero: words.next(),
-            populated: words.next(),
-        },
+        tallies: CellTallies::of_fields([(); 5].map(|()| words.next())),
     }
 }
 
@@ -78,7 +73,7 @@ fn given(answer: Result<Builder, Refusal>) -> Answer {
 }
 
 fn builder_words(b: Builder, total: f64) -> Answer {
-    let tallies = [tallied(b.tallies), vec![b.digest, shown(total)]].concat();
-    let numbers = [b.decimation.factor, b.nodata, b.rows].map(u64::from);
-    [fields(b.decimation.source), fields(b.decimation.grid), tallies, six(numbers.to_vec())].concat()
+    let tallies = [&b.tallies.fields()[..], &[b.digest]].concat();
+    let numbers = [[b.decimation.factor, b.nodata, b.rows].map(u64::from).to_vec(), vec![shown(total)]].concat();
+    [fields(b.decimation.source), fields(b.decimation.grid), tallies, six(numbers)].concat()
 }

@@ -6,11 +6,11 @@ use crate::generate_tables::Cells;
 use crate::grid::Grid;
 use crate::refusals;
 use crate::table::{padded_len, Builder, Decimation};
-use crate::table_calls::{cells_of, tallied};
+use crate::table_calls::cells_of;
 use crate::words::listed;
 use std::array;
 
-/// The calls so far, and what they left: the builder's twenty words and the lent buffers.
+/// The calls so far, and what they left: the builder's 21 words and the lent buffers.
 pub struct Walk {
     pub calls: Vec<Vec<u64>>,
     builder: Vec<u64>,
@@ -22,7 +22,7 @@ impl Walk {
     /// the fill's low 63 bits, plus i.
     pub fn new(g: &Grid, fill: u64, lengths: [usize; 4]) -> Self {
         let filled = |n: usize| (0..n).map(|i| f64::from_bits((fill & !(1 << 63)) + i as u64)).collect();
-        let builder = [grid_words(g), grid_words(g), vec![1, 0, 0, 0, 0, 0, 0, 0]].concat();
+        let builder = [grid_words(g), grid_words(g), vec![1, 0, 0, 0, 0, 0, 0, 0, 0]].concat();
         Self { calls: vec![], builder, lent: Lent(lengths.map(filled)) }
     }
 
@@ -77,7 +77,7 @@ pub fn wrong_lengths(right: [usize; 4], set: u64, mut kind: impl FnMut() -> u64)
 fn words_of(b: Builder) -> Vec<u64> {
     let numbers = [b.decimation.factor, b.nodata, b.rows].map(u64::from);
     let grids = [grid_words(&b.decimation.source), grid_words(&b.decimation.grid)].concat();
-    [grids, numbers.to_vec(), vec![b.digest], tallied(b.tallies)].concat()
+    [grids, numbers.to_vec(), vec![b.digest], b.tallies.fields().to_vec()].concat()
 }
 
 /// The lengths that a build asks: accumulator, corrections, coarse row, table.
@@ -139,7 +139,7 @@ impl Random {
 
     /// A field of the builder becomes a word that its maker may not have put there.
     fn forge(&mut self, walk: &mut Walk, g: &Grid) {
-        let field = self.below(21) as usize;
+        let field = self.below(22) as usize;
         let mut other = *g;
         self.spoil(&mut other);
         let word = match field {
@@ -151,7 +151,7 @@ impl Random {
             },
             12 => self.below(13),
             14 => self.below(u64::from(g.height) + 3),
-            16..=19 => match self.below(4) {
+            16..=20 => match self.below(4) {
                 0 => u64::MAX - self.below(2),
                 1 => 1 << 63,
                 _ => self.below(u64::from(g.width) * 3 + 1),
@@ -181,7 +181,19 @@ impl Random {
         let cells = rows * u64::from(g.width);
         let nodata = self.below(cells + 1);
         walk.builder[14] = rows;
-        walk.builder[16..].copy_from_slice(&[nodata, cells - nodata, 0, 0]);
+        walk.builder[16..].fill(0);
+        for part in [nodata, cells - nodata] {
+            walk.builder[16 + self.below(5) as usize] += part;
+        }
+    }
+
+    /// Two tallies that add up to what they did modulo 2^64, and to 2^64 more: no builder's.
+    fn wrap(&mut self, walk: &mut Walk) {
+        let (one, other) = (self.below(5) as usize, 1 + self.below(4) as usize);
+        let (one, other) = (16 + one, 16 + (one + other) % 5);
+        let both = walk.builder[one] + walk.builder[other];
+        walk.builder[one] = u64::MAX - self.below(1 << 20);
+        walk.builder[other] = both.wrapping_sub(walk.builder[one]);
     }
 
     /// A row of the length that is asked, or of another.
@@ -223,6 +235,13 @@ impl Random {
                 2 => self.jump(&mut walk, &g),
                 3 => walk.start(factor, nodata),
                 4 => walk.calls.push(vec![0x53 + self.below(3)]),
+                9 => {
+                    let kept = walk.builder.clone();
+                    self.wrap(&mut walk);
+                    walk.row(&self.build_row(&g, cells, nodata));
+                    walk.finish();
+                    walk.builder = kept;
+                }
                 6..=8 => {
                     let row = self.build_row(&g, cells, nodata);
                     self.lend_wrongly(&mut walk, right, [factor, nodata], &row);

@@ -12,16 +12,23 @@ impl Random {
     }
 }
 
-const NODATA: [u32; 7] = [0xc61c_3c00, 0, 0x8000_0000, 0x7fc0_0000, 0x7fc0_0001, 0xff7f_ffff, 0x3f80_0000];
+#[rustfmt::skip]
+const NODATA: [u32; 10] = [
+    0xc61c_3c00, 0xc61c_3c00, 0, 0x8000_0000, 0x7fc0_0000, 0x7fc0_0001, 0xff7f_ffff, 0x3f80_0000, 0x7f80_0000, 0xff80_0000,
+];
 
 fn cell(r: &mut Random, nodata: u32, kind: u64) -> u32 {
     match (kind, r.below(40)) {
         (_, 0) => nodata,
         (_, 1) => r.of(&[0, 0x8000_0000, 0x7fc0_0000, 0x7fc0_0001, 0xffc0_0000, 1, 0x8000_0001, 0xbf80_0000]),
+        // Infinities, and NaNs with a payload.
+        (0 | 4, 2..=4) => {
+            let nan = 0x7f80_0001 + r.below(0x7f_ffff) as u32;
+            r.of(&[0x7f80_0000, 0x7f80_0000, 0xff80_0000, nan])
+        }
         (0, _) | (1, _) => (r.below(2000) as f32).to_bits(),
         (2, _) => ((r.below(100_000) as f32) / 64.0).to_bits(),
         (3, _) => (r.below(1 << 40) as f32).to_bits(),
-        (4, 2) => 0x7f80_0000,
         (4, _) => r.word() as u32,
         _ => ((r.below(1 << 24) as f32) * 1024.0).to_bits(),
     }

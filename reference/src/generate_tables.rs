@@ -14,19 +14,31 @@ pub enum Cells {
     Large,
     Fractions,
     Mixed,
+    /// Whole numbers, with infinities, NaNs and the mark among them.
+    Lakes,
     Any,
 }
 
 impl Random {
     // ---- rows
 
-    pub fn nodata(&mut self) -> u64 {
+    /// +infinity, −infinity, or a NaN of any sign and payload.
+    pub fn endless(&mut self) -> u64 {
         match self.below(4) {
+            0 | 1 => 0x7f80_0000,
+            2 => 0xff80_0000,
+            _ => 0x7f80_0001 + self.below(0x7f_ffff) | self.pick(&[0, 0x8000_0000]),
+        }
+    }
+
+    pub fn nodata(&mut self) -> u64 {
+        match self.below(5) {
             0 => HALVES[self.below(18) as usize],
             1 => {
                 self.pick(&[0xc61c_3c00, 0xff7f_ffff, 0xff7f_fffd, 0x7fc0_0000, 0x7fc0_0001, 0, 0x8000_0000])
             }
             2 => self.word() >> 32,
+            3 => self.endless(),
             _ => 0xc61c_3c00,
         }
     }
@@ -56,6 +68,11 @@ impl Random {
                 4 => bits(self.below(1 << 20) as f64),
                 _ => bits(self.between(0.0, 1e6)),
             },
+            Cells::Lakes => match self.below(6) {
+                0 => self.endless(),
+                1 => nodata,
+                _ => bits(self.below(1000) as f64),
+            },
             Cells::Any => match self.below(8) {
                 0 => nodata,
                 // One bit away from the mark, so that the NaNs beside it are tried.
@@ -70,7 +87,15 @@ impl Random {
     }
 
     pub fn cells(&mut self) -> Cells {
-        self.pick(&[Cells::Whole, Cells::Large, Cells::Fractions, Cells::Mixed, Cells::Mixed, Cells::Any])
+        self.pick(&[
+            Cells::Whole,
+            Cells::Large,
+            Cells::Fractions,
+            Cells::Mixed,
+            Cells::Mixed,
+            Cells::Lakes,
+            Cells::Any,
+        ])
     }
 
     pub fn row_of(&mut self, cells: Cells, nodata: u64, length: u64) -> Vec<u64> {
@@ -86,7 +111,8 @@ impl Random {
             2..=9 => self.below(600),
             _ => self.below(24),
         };
-        listed(&[&[nodata], &self.row_of(Cells::Any, nodata, length)])
+        let cells = self.pick(&[Cells::Lakes, Cells::Any, Cells::Any, Cells::Any]);
+        listed(&[&[nodata], &self.row_of(cells, nodata, length)])
     }
 
     // ---- tables and rectangles

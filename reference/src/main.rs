@@ -1,6 +1,7 @@
 // The reference's driver: writes lists of calls and answers them. README.md has the commands.
 mod build_calls;
 mod calls;
+mod cells;
 mod circle;
 mod circle_calls;
 mod generate;
@@ -22,6 +23,7 @@ mod table_calls;
 mod words;
 mod zero_signs;
 
+use std::collections::BTreeMap;
 use std::env;
 use std::io::{self, BufReader, BufWriter, Write};
 use std::process::ExitCode;
@@ -34,7 +36,8 @@ fn main() -> ExitCode {
         ["answer"] => Some(answer()),
         ["sample"] => Some(sample()),
         ["zero-signs"] => Some(zero_signs()),
-        ["lengths"] => Some(lengths()),
+        ["lengths"] => Some(counted(lengths::count)),
+        ["cells"] => Some(counted(cells::count)),
         ["generate", seed, from, count] => generate(seed, from, count, "all"),
         ["generate", seed, from, count, module] => generate(seed, from, count, module),
         _ => None,
@@ -47,7 +50,7 @@ fn main() -> ExitCode {
         }
         None => {
             eprintln!(
-                "usage: driver answer | sample | zero-signs | lengths | generate SEED FROM COUNT [MODULE]"
+                "usage: driver answer | sample | zero-signs | lengths | cells | generate SEED FROM COUNT [MODULE]"
             );
             ExitCode::from(2)
         }
@@ -82,10 +85,10 @@ fn zero_signs() -> io::Result<()> {
         .try_for_each(|(name, [lat, lon, both, step])| writeln!(out, "{name} {lat} {lon} {both} {step}"))
 }
 
-/// For the starts, rows and finishes on standard input, how many are refused for a length, and for which.
-fn lengths() -> io::Result<()> {
-    let mut counts = lengths::Counts::new();
-    each_call(|number, words| lengths::count(&mut counts, number, words));
+/// Of the calls on standard input, how many are of each name that `count` knows.
+fn counted(count: impl Fn(&mut BTreeMap<String, u64>, u64, &[u64])) -> io::Result<()> {
+    let mut counts = BTreeMap::new();
+    each_call(|number, words| count(&mut counts, number, words));
     let mut out = io::stdout().lock();
     counts.into_iter().try_for_each(|(name, count)| writeln!(out, "{name} {count}"))
 }

@@ -1,8 +1,8 @@
 // MIT licence (NOTICE). From turboBasic/PopulationCircles2026 at 29312e2fd7, crates/popcircles/src/raster.rs.
 // Cut: all but the tallies and `sanitise_row`.
-// Put in: the sentinel comes as its bits.
+// Put in: the sentinel comes as its bits; document 02's C-12, the tally of +infinity.
 
-/// Where every cell of a drained raster went. The four classes are disjoint and exhaustive, so they
+/// Where every cell of a drained raster went. The five classes are disjoint and exhaustive, so they
 /// sum to the grid's cell count, and that sum is the claim a caller can check its own traversal
 /// against.
 #[derive(Debug, Clone, Copy, Default, PartialEq, Eq)]
@@ -15,6 +15,19 @@ pub struct CellTallies {
     pub unexpected_negative: u64,
     pub zero: u64,
     pub populated: u64,
+    /// Cells of +infinity that did not match it (document 02, C-12).
+    pub unbounded: u64,
+}
+
+impl CellTallies {
+    /// In record order.
+    pub fn fields(self) -> [u64; 5] {
+        [self.nodata, self.unexpected_negative, self.zero, self.populated, self.unbounded]
+    }
+
+    pub fn of_fields([nodata, unexpected_negative, zero, populated, unbounded]: [u64; 5]) -> Self {
+        Self { nodata, unexpected_negative, zero, populated, unbounded }
+    }
 }
 
 /// The one place a sentinel becomes a zero, and the only thing in this crate that knows a nodata value
@@ -28,6 +41,9 @@ pub fn sanitise_row(values: &mut [f32], sentinel: u32, tallies: &mut CellTallies
     for value in values {
         if value.to_bits() == sentinel {
             tallies.nodata += 1;
+            *value = 0.0;
+        } else if *value == f32::INFINITY {
+            tallies.unbounded += 1;
             *value = 0.0;
         } else if *value < 0.0 {
             tallies.unexpected_negative += 1;

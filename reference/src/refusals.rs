@@ -131,8 +131,7 @@ fn made_builder(b: &Builder) -> Result<(), Refusal> {
     let source = b.decimation.source;
     made(&source)?;
     let again = decimation(source, b.decimation.factor).map_err(|_| NOT_ITS_MAKERS)?;
-    let t = b.tallies;
-    let cells: u128 = [t.nodata, t.unexpected_negative, t.zero, t.populated].map(u128::from).iter().sum();
+    let cells: u128 = b.tallies.fields().map(u128::from).iter().sum();
     let right = again.grid == b.decimation.grid
         && b.rows <= source.height
         && cells == u128::from(b.rows) * u128::from(source.width);

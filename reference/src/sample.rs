@@ -1,6 +1,7 @@
 // The stored sample: every call at the limits, then some of a seed's list.
 use crate::generate::{self, bits, numbers_of, HALVES, LIMITS, NANS};
 use crate::generate_builds::{self, Walk};
+use crate::generate_grids::grid_words;
 use crate::geodesy::LatLon;
 use crate::grid::Grid;
 use crate::table::FNV_OFFSET_BASIS;
@@ -31,6 +32,8 @@ pub fn calls() -> Vec<Vec<u64>> {
     calls.extend(examples());
     calls.extend(zeros());
     calls.extend(wrong_lengths());
+    calls.extend(endless());
+    calls.extend(tallies());
     for (module, count, longest) in SEEDED {
         let numbers = numbers_of(module).unwrap_or_default();
         let all = (0..).map(|index| generate::calls(1, index, &numbers));
@@ -57,6 +60,12 @@ const SEEDED: [(&str, usize, usize); 9] = [
 ];
 
 /// Document 01's own example, and the cases that it names.
+/// The grid of document 01's example.
+fn source() -> Grid {
+    let origin = LatLon { lat: 90.0, lon: -180.0 };
+    Grid { width: 4, height: 2, origin, lon_step: 90.0, lat_step: -90.0 }
+}
+
 fn examples() -> Vec<Vec<u64>> {
     let example =
         |width: u64, lon: f64| [vec![width, 2], bits([90.0, lon, 360.0 / width as f64, -90.0])].concat();
@@ -82,10 +91,8 @@ fn examples() -> Vec<Vec<u64>> {
         calls.push([vec![0x30, 1, width], bits([0.0, 0.0, 1.0, -1e-5])].concat());
     }
     // Built at factors 1 and 2, with the calls that are refused on the way; 0 and 3 are refused.
-    let origin = LatLon { lat: 90.0, lon: -180.0 };
-    let source = Grid { width: 4, height: 2, origin, lon_step: 90.0, lat_step: -90.0 };
     for (factor, coarse, table) in [(1, 5, 15), (2, 3, 6), (0, 5, 15), (3, 5, 15)] {
-        let mut walk = Walk::new(&source, 0x4008_0000_0000_0000, [5, 5, coarse, table]);
+        let mut walk = Walk::new(&source(), 0x4008_0000_0000_0000, [5, 5, coarse, table]);
         walk.start(factor, nodata);
         walk.finish();
         walk.row(&rows[0]);
@@ -130,7 +137,7 @@ fn zeros() -> Vec<Vec<u64>> {
     for (a, b) in origins.iter().flat_map(|&a| origins.map(|b| (a, b))) {
         calls.push([vec![0x3c], grid(a, 1), grid(b, 1)].concat());
         for k in [1, 2] {
-            let numbers = [k, 0, 0, FNV_OFFSET_BASIS, 0, 0, 0, 0];
+            let numbers = [k, 0, 0, FNV_OFFSET_BASIS, 0, 0, 0, 0, 0];
             let builder = [grid(a, 1), grid(b, k), numbers.to_vec()].concat();
             let (coarse, table) = (vec![0; 4 / k as usize + 1], vec![0; 15 - 9 * (k as usize - 1)]);
             calls.push(of_lists(0x51, &[&builder, &[0; 5], &[0; 5], &coarse, &table, &[1, 2, 3, 4]]));
@@ -168,6 +175,62 @@ fn wrong_lengths() -> Vec<Vec<u64>> {
 }
 
 /// Calls of two or three floats, at the cases that document 01 and the reference name.
+/// +infinity, −infinity, NaNs of either sign with payloads, and the largest number.
+const ENDLESS: [u64; 6] = [0x7f80_0000, 0xff80_0000, 0x7f80_0001, 0x7fc0_0000, 0xffc0_0001, 0x7f7f_ffff];
+
+/// Document 02's C-12: each of them at each place of a row, under a mark that is none of them and under each; and
+/// +infinity at each place of a raster that is built at factors 1 and 2.
+fn endless() -> Vec<Vec<u64>> {
+    let row = |from: u8| [1, 2, 3, 4].map(|i| u64::from(f32::from(from + i).to_bits()));
+    let mut calls = Vec::new();
+    for (cell, place) in ENDLESS.iter().flat_map(|&cell| [0, 1, 2, 3].map(|place| (cell, place))) {
+        for nodata in [&[0xc61c_3c00], &ENDLESS[..]].concat() {
+            let mut row = row(0);
+            row[place] = cell;
+            calls.push(of_lists(0x40, &[&[nodata], &row]));
+        }
+    }
+    for (factor, right) in [(1, [5, 5, 5, 15]), (2, [5, 5, 3, 6])] {
+        for (place, nodata) in (0..8).flat_map(|place| [(place, 0xc61c_3c00), (place, ENDLESS[0])]) {
+            let mut walk = Walk::new(&source(), 1, right);
+            let mut cells = [row(0), row(4)].concat();
+            cells[place] = ENDLESS[0];
+            walk.start(factor, nodata);
+            walk.row(&cells[..4]);
+            walk.row(&cells[4..]);
+            walk.finish();
+            calls.extend(walk.calls);
+        }
+    }
+    calls
+}
+
+/// Of a builder with one row of four cells in: all in one tally, one more and one fewer, and two tallies that add up
+/// modulo 2^64 alone.
+fn tallies() -> Vec<Vec<u64>> {
+    let mut all = Vec::new();
+    for field in 0..5 {
+        for cells in [4, 5, 3] {
+            let mut one = [0; 5];
+            one[field] = cells;
+            all.push(one);
+        }
+        for other in (0..5).filter(|&other| other != field) {
+            let mut two = [0; 5];
+            (two[field], two[other]) = (u64::MAX, 5);
+            all.push(two);
+        }
+    }
+    let grid = grid_words(&source());
+    let lists = |tallies: &[u64; 5], number: u64| {
+        let builder = [&grid[..], &grid, &[1, 0xc61c_3c00, 1, FNV_OFFSET_BASIS], tallies].concat();
+        let row: &[u64] = &[0x3f80_0000; 4];
+        let lists = [&builder[..], &[0; 5], &[0; 5], &[0; 5], &[0; 15], row];
+        of_lists(number, &lists[..if number == 0x51 { 6 } else { 5 }])
+    };
+    all.iter().flat_map(|tallies| [lists(tallies, 0x51), lists(tallies, 0x52)]).collect()
+}
+
 fn pairs() -> Vec<Vec<u64>> {
     let tiny = f64::from_bits(1);
     let values = [

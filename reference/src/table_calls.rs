@@ -7,10 +7,6 @@ use crate::refusals;
 use crate::table::{ColSpan, RowBand, Window};
 use crate::words::{lent, list, Arguments};
 
-pub fn tallied(t: CellTallies) -> Answer {
-    vec![t.nodata, t.unexpected_negative, t.zero, t.populated]
-}
-
 /// A row from its bit patterns. Patterns of NaN stay as they are.
 pub fn cells_of(patterns: &[u64]) -> Vec<f32> {
     patterns.iter().map(|&bits| f32::from_bits(bits as u32)).collect()
@@ -25,7 +21,7 @@ pub fn sanitise(call: &[u64]) -> Answer {
     let mut cells = cells_of(lent(call, 1));
     let mut tallies = CellTallies::default();
     sanitise_row(&mut cells, nodata, &mut tallies);
-    [six(tallied(tallies)), patterns_of(&cells)].concat()
+    [six(tallies.fields().to_vec()), patterns_of(&cells)].concat()
 }
 
 // ---- rectangles

@@ -8,10 +8,8 @@ use lib.Ieee.{Float, binary64, neg, ofBits, toBits}
 use Rattle.refusal.specs.Refusal.{Outcome, answered, refused}
 use Rattle.float.specs.Float.{f64zero, f64one}
 use Rattle.float.specs.TwoSum.{twoSum}
-use Rattle.raster.specs.declared.CellKind.{CellKind}
-use Rattle.raster.specs.declared.CellKind.the-variants.{Nodata, Negative, Zero, Populated}
 use Rattle.raster.specs.Raster.{kindOf}
-use Rattle.raster.specs.Example.{exampleMark, firstRow, secondRow}
+use Rattle.raster.specs.Example.{exampleMark, firstRow, secondRow, kindNumber}
 use Rattle.radius.specs.Radius.{widenedBy}
 use Rattle.grid.specs.declared.Grid.{Grid}
 use Rattle.grid.specs.Grid.{f64p90, tolerance, gridNew}
@@ -52,12 +50,6 @@ unfoldable pub exampleTable : ℕ → List Float
 exampleTable k = next secondRow (next firstRow (startCall exampleGrid k exampleMark (lentFor k))) .buffers .table
 
 -- ---- answers as numbers
-
-abbrev pub kindNumber : CellKind → ℕ
-kindNumber Nodata = 0
-kindNumber Negative = 1
-kindNumber Zero = 2
-kindNumber Populated = 3
 
 -- 0 and the value, or the refusal
 abbrev pub outcomeBits : Outcome Float → List ℕ

@@ -20,10 +20,10 @@ fn card_buffer() -> [u8; 65537]
 }
 
 // No card's text is longer.
-fn text_buffer() -> [u8; 139328]
-    ensures { λ r. ⌜ 139328 ≡ length r ⌝ }
+fn text_buffer() -> [u8; 139333]
+    ensures { λ r. ⌜ 139333 ≡ length r ⌝ }
 {
-    [0; 139328]
+    [0; 139333]
 }
 
 // Reads until the input ends, `bytes` is full or a read fails.

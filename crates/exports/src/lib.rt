@@ -157,7 +157,7 @@ pub extern "C" fn exports_rectangle(
 #[no_mangle]
 pub extern "C" fn exports_card_answer(card: &[u8], out: &mut [u8]) -> usize
     ensures { λ r. ⌜ (r ≡ length (printed (now (card .entry))))
-        × (now (out .exit) ≡ sets (now (out .entry)) 0 (printed (now (card .entry)))) × (r ≤ 139328) ⌝ }
+        × (now (out .exit) ≡ sets (now (out .entry)) 0 (printed (now (card .entry)))) × (r ≤ 139333) ⌝ }
 {
     report::answer(card, out)
 }

@@ -9,7 +9,7 @@ use native.Mathlib.Omega.{arith}
 use borrow.Author.Tests.{lt-ltb, le-ltb, le-leb, lt-leb, ltb-true, ltb-false, eqb-true, eqb-false}
 use lib.Dec.{eqb, leb, ltb}
 use lib.IntN.{ℤ, pos}
-use lib.Ieee.{Float, nan, inf, fin, Format, binary32, hid, ones, lt, isNan, odd, ofFields, ofBits, toBits, size, up, down}
+use lib.Ieee.{Float, nan, inf, fin, Format, binary32, hid, ones, lt, eq, isNan, odd, ofFields, ofBits, toBits, size, up, down}
 use lib.Ieee.Bits.{nanBits-is, toBits-ofBits}
 use lib.Ieee.Fits.{up-pos}
 use Rattle.float.specs.Float.{f64zero}
@@ -46,6 +46,25 @@ sign-fields f s (suc x) t =
 sign-bits : (b : ℕ) → signOr (leb 0x8000_0000 b) (ofBits binary32 b) ≡ leb 0x8000_0000 b
 unfolding ofBits
 sign-bits b = sign-fields binary32 (leb 0x8000_0000 b) (b % 0x8000_0000 / 0x80_0000) (b % 0x80_0000)
+
+-- ---- +infinity has one pattern
+
+pub unbounded : (b : ℕ) → b ≡ 0x7f80_0000 → eq (cellValue b) (inf false) ≡ true
+unfolding eq ofBits
+unbounded b e = rw e
+
+pub bounded : (b : ℕ) → b < 2 ^ 32 → (b ≡ 0x7f80_0000 → ⊥) → eq (cellValue b) (inf false) ≡ false
+unfolding eq isNan toBits
+bounded b h other = go (cellValue b) refl
+  where
+    infinite : cellValue b ≡ inf false → b ≡ 0x7f80_0000
+    infinite e = sym (toBits-ofBits binary32 b (omega arith) (rw e tt)) ∙ ap (toBits binary32) e
+
+    go : (x : Float) → cellValue b ≡ x → eq x (inf false) ≡ false
+    go nan e = refl
+    go (inf true) e = refl
+    go (inf false) e = absurd (other (infinite e))
+    go (fin s m k) e = refl
 
 -- ---- a zero and a NaN are neither below 0 nor above it
 

@@ -5,7 +5,7 @@ ghost use Prim.Native.Nat.{_<_};
 ghost use lib.ListN.{length};
 use libc::STDOUT_FILENO;
 
-const CARDS: u8 = 30;
+const CARDS: u8 = 35;
 
 fn card_buffer() -> [u8; 65537]
     ensures { λ r. ⌜ 65537 ≡ length r ⌝ }
@@ -13,10 +13,10 @@ fn card_buffer() -> [u8; 65537]
     [0; 65537]
 }
 
-fn text_buffer() -> [u8; 139328]
-    ensures { λ r. ⌜ 139328 ≡ length r ⌝ }
+fn text_buffer() -> [u8; 139333]
+    ensures { λ r. ⌜ 139333 ≡ length r ⌝ }
 {
-    [0; 139328]
+    [0; 139333]
 }
 
 // The card at the front of `bytes`.

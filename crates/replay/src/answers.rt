@@ -4,6 +4,7 @@ use crate::text::put;
 use crate::words::*;
 use float::to_bits;
 use grid::Grid;
+use raster::CellTallies;
 
 pub type Answer = [u64; 6];
 
@@ -27,6 +28,11 @@ pub fn grid_words(g: Grid) -> Answer {
     let lon_step = to_bits(g.lon_step);
     let lat_step = to_bits(g.lat_step);
     [width, height, lat, lon, lon_step, lat_step]
+}
+
+// The tallies, and a word behind them.
+pub fn tally_words(t: CellTallies, word: u64) -> Answer {
+    [t.nodata, t.negative, t.zero, t.populated, t.unbounded, word]
 }
 
 pub fn put_answer(out: &mut Text, at: usize, answer: Answer) -> usize {

@@ -69,6 +69,7 @@ fn builder(words: &[u8]) -> Builder {
         negative: word(words, 17),
         zero: word(words, 18),
         populated: word(words, 19),
+        unbounded: word(words, 20),
     };
     Builder {
         decimation,
@@ -88,16 +89,14 @@ fn put_given(out: &mut Text, answer: BuilderAnswer) -> usize {
 
 fn put_builder(out: &mut Text, b: Builder, total: f64) -> usize {
     let d = b.decimation;
-    let t = b.tallies;
     let total = float::to_bits(total);
     let factor = d.factor as u64;
     let nodata = b.nodata as u64;
     let rows = b.rows as u64;
     let grid_at = put_answer(out, 0, grid_words(d.source));
     let tallies_at = put_answer(out, grid_at, grid_words(d.grid));
-    let tallies = [t.nodata, t.negative, t.zero, t.populated, b.digest, total];
-    let end = put_answer(out, tallies_at, tallies);
-    put_answer(out, end, [factor, nodata, rows, 0, 0, 0])
+    let end = put_answer(out, tallies_at, tally_words(b.tallies, b.digest));
+    put_answer(out, end, [factor, nodata, rows, total, 0, 0])
 }
 
 // A built table has no nodata and no rows.

@@ -17,7 +17,7 @@ fn of_row(n: u64, words: &[u8], row: &mut [u32]) -> Answer {
         0x12 => [digest::digest_row(word(words, 0), row), 0, 0, 0, 0, 0],
         0x40 => {
             let t = raster::sanitise_row(row, half(words, 0));
-            [t.nodata, t.negative, t.zero, t.populated, 0, 0]
+            tally_words(t, 0)
         }
         _ => kernel(words, row),
     }

@@ -11,8 +11,6 @@ use lib.ListN.{length, length-append}
 use Rattle.refusal.proofs.Chains.{answered-same}
 use Rattle.refusal.specs.Refusal.{answered, first, passed, outcome, radiusNotFinite, radiusBelowZero, rowOffGrid, columnsDontClose, columnOffGrid}
 use Rattle.float.specs.Float.{f64zero}
-use Rattle.raster.specs.declared.CellTallies.{CellTallies}
-use Rattle.raster.specs.Raster.{cellsOf}
 use Rattle.grid.specs.declared.Grid.{Grid}
 use Rattle.grid.specs.Lookup.{closes}
 use Rattle.builder.specs.declared.BuiltTable.{BuiltTable}
@@ -64,16 +62,13 @@ circles-length card h cells (suc n) k =
       circle-text-length n (circleChecks g c) (circleCount g cells c) (omega arith) (checks-below g c),
     )
 
-tallies-length : (t : CellTallies) (n : ℕ) → cellsOf t ≡ n → n ≤ 8192 → length (cellsLine t) ≤ 26
-tallies-length t n e k = cells-length t (omega arith) (omega arith) (omega arith) (omega arith)
-
 -- the first three lines of a card's text
 abbrev summary : List ℕ → Header → List ℕ
 summary card h =
     let b = wholeBuild card h in
     rowsLine (h .decimation .source .height) ++ cellsLine (b .builder .tallies) ++ totalLine (totalOf (b .builder) (b .lent))
 
-summary-length : (card : List ℕ) (h : Header) → Accepted card h → length (summary card h) ≤ 64
+summary-length : (card : List ℕ) (h : Header) → Accepted card h → length (summary card h) ≤ 69
 summary-length card h a =
     let b = wholeBuild card h in
     let rows = rowsLine (h .decimation .source .height) in
@@ -85,12 +80,12 @@ summary-length card h a =
       length-append (rows ++ tallies) total,
       length-append rows tallies,
       rows-length (h .decimation .source .height) (omega (arith, z .height)),
-      tallies-length (b .builder .tallies) _ (all-tallied a) (z .cells),
+      cells-length (b .builder .tallies) (omega (arith, all-tallied a, z .cells)),
       total-length (totalOf (b .builder) (b .lent)),
     )
 
--- 64 bytes, and 34 for each of 4,096 circles
-report-length : (card : List ℕ) (h : Header) → Accepted card h → length (reportText card (answered h)) ≤ 139328
+-- 69 bytes, and 34 for each of 4,096 circles
+report-length : (card : List ℕ) (h : Header) → Accepted card h → length (reportText card (answered h)) ≤ 139333
 report-length card h a =
     let cells = wholeBuild card h .lent .table in
     let few : h .circles ≤ 4096 = omega (arith, a .circles, a .whole) in

@@ -37,10 +37,10 @@ fn report(card: &[u8], h: Header, out: &mut [u8]) -> usize
 }
 
 // What `count` prints of a card is laid over `out`, of any length, from its front on: what does not fit is dropped, and the
-// answer is the whole text's length, at most 64 bytes and 34 for each of 4,096 circles.
+// answer is the whole text's length, at most 69 bytes and 34 for each of 4,096 circles.
 pub fn answer(card: &[u8], out: &mut [u8]) -> usize
     ensures { λ r. ⌜ (r ≡ length (printed (now (card .entry))))
-        × (now (out .exit) ≡ sets (now (out .entry)) 0 (printed (now (card .entry)))) × (r ≤ 139328) ⌝ }
+        × (now (out .exit) ≡ sets (now (out .entry)) 0 (printed (now (card .entry)))) × (r ≤ 139333) ⌝ }
 {
     let header = read_header(card);
     match header {

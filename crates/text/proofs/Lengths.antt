@@ -7,6 +7,7 @@ use lib.ListN.{length, length-append}
 use lib.Ieee.{Float, binary64, toBits, toUnsigned}
 use lib.Ieee.Casts.{toUnsigned-lt}
 use Rattle.raster.specs.declared.CellTallies.{CellTallies}
+use Rattle.raster.specs.Raster.{cellsOf}
 use Rattle.digits.specs.Digits.{decimal, hexDigits, bitsWord, isCount, shown}
 use Rattle.text.specs.Text.{refusedLine, rowsLine, cellsLine, totalLine, circleLine, circleRefusedLine}
 use Rattle.digits.proofs.Digits.{decimal-length, hex-length}
@@ -34,11 +35,19 @@ pub rows-length : (n : ℕ) → n < 10000 → length (rowsLine n) ≤ 10
 unfolding rowsLine
 rows-length n h = simp length-append (omega (arith, decimal-length 3 n (omega arith)))
 
-pub cells-length : (t : CellTallies) → t .nodata < 10000 → t .negative < 10000 → t .zero < 10000 → t .populated < 10000 → length (cellsLine t) ≤ 26
+pub cells-length : (t : CellTallies) → cellsOf t < 10000 → length (cellsLine t) ≤ 31
 unfolding cellsLine
-cells-length t a b c d =
-    let four : (n : ℕ) → n < 10000 → length (decimal n) ≤ 4 = λ n h. decimal-length 3 n (omega arith) in
-    simp length-append (omega (arith, four (t .nodata) a, four (t .negative) b, four (t .zero) c, four (t .populated) d))
+cells-length t h =
+    let four : (n : ℕ) → n ≤ cellsOf t → length (decimal n) ≤ 4 = λ n k. decimal-length 3 n (omega arith) in
+    simp length-append
+    (omega (
+      arith,
+      four (t .nodata) (omega arith),
+      four (t .negative) (omega arith),
+      four (t .zero) (omega arith),
+      four (t .populated) (omega arith),
+      four (t .unbounded) (omega arith),
+    ))
 
 pub total-length : (x : Float) → length (totalLine x) ≤ 28
 unfolding totalLine

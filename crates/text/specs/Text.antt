@@ -37,10 +37,11 @@ refusedLine n = refusedWord ++ decimal n ++ newline
 unfoldable pub rowsLine : ℕ → List ℕ
 rowsLine height = rowsWord ++ decimal height ++ newline
 
--- `cells` and the tallies in record order
+-- `cells` and the tallies in record order, the unbounded last (document 02, C-12)
 unfoldable pub cellsLine : CellTallies → List ℕ
 cellsLine t =
-    cellsWord ++ decimal (t .nodata) ++ space ++ decimal (t .negative) ++ space ++ decimal (t .zero) ++ space ++ decimal (t .populated) ++ newline
+    cellsWord ++ decimal (t .nodata) ++ space ++ decimal (t .negative) ++ space ++ decimal (t .zero) ++ space ++ decimal (t .populated) ++ space
+    ++ decimal (t .unbounded) ++ newline
 
 -- `total` and the total
 unfoldable pub totalLine : Float → List ℕ

@@ -47,7 +47,8 @@ pub fn cells_line(out: &mut [u8], at: usize, t: CellTallies) -> usize
     let b = put_number(out, a, t.nodata, SPACE);
     let c = put_number(out, b, t.negative, SPACE);
     let d = put_number(out, c, t.zero, SPACE);
-    put_number(out, d, t.populated, NEWLINE)
+    let e = put_number(out, d, t.populated, SPACE);
+    put_number(out, e, t.unbounded, NEWLINE)
 }
 
 pub fn total_line(out: &mut [u8], at: usize, total: f64) -> usize

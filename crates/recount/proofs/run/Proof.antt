@@ -1,6 +1,6 @@
--- `recount::run` meets its contract. The measure is how many cards are left.
+-- `recount::run` meets its contract. The measure is how many cards a u8 has names for behind this one.
 -- Assumes nothing.
-use Prim.Native.Nat.{_≤_, _-_}
+use Prim.Native.Nat.{_-_}
 use mathlib.Core.Path.{_≡_}
 use lib.ListN.{length}
 use borrow.Author.Needs.{needs}
@@ -8,10 +8,10 @@ use Rattle.recount.proofs.run.Statement.{statement}
 use Rattle.recount.proofs.run.Tie as tie
 
 abbrev Inv-loop : tie.InvT-loop
-Inv-loop bytes₀ text₀ i₀ bytes text i = (length bytes ≡ length bytes₀) × (length text ≡ length text₀) × (i ≤ 30)
+Inv-loop bytes₀ text₀ i₀ bytes text i = (length bytes ≡ length bytes₀) × (length text ≡ length text₀)
 
 abbrev μ-loop : tie.MeasureT-loop
-μ-loop bytes₀ text₀ i₀ bytes text i = 30 - i
+μ-loop bytes₀ text₀ i₀ bytes text i = 255 - i
 
 pub run-spec : {M : Type 1} → statement M
 run-spec =

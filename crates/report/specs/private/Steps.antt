@@ -34,4 +34,4 @@ pub record Countable (g : Grid) (cells : List Float) (widths : List ℕ) : Type 
 pub record Printed (text before after : List ℕ) (n : ℕ) : Type 0 where
   pub size : n ≡ length text
   pub left : after ≡ sets before 0 text
-  pub bounded : n ≤ 139328
+  pub bounded : n ≤ 139333

@@ -11,19 +11,21 @@ returns : tie.Need-returns
 unfolding cellsLine
 returns c =
     let halfway = c .before .before .before .before .before in
-    let zero = halfway .before in
+    let populated = halfway .before in
+    let zero = populated .before .before .before .before in
     let negative = zero .before .before .before .before in
     let nodata = negative .before .before .before .before in
     let word = nodata .before .before .before .before in
     let t = word .before .before .before .before .args .t in
-    laid-parts (decimal (t .populated)) newline
+    laid-parts (decimal (t .unbounded)) newline
+    (laid-parts (decimal (t .populated)) space
     (laid-parts (decimal (t .zero)) space
     (laid-parts (decimal (t .negative)) space
     (laid-parts (decimal (t .nodata)) space (word .put-bytes .ensures) (nodata .put-number .ensures))
-    (negative .put-number2 .ensures)) (zero .put-number3 .ensures)) (c .before .before .put-number4 .ensures)
+    (negative .put-number2 .ensures)) (zero .put-number3 .ensures)) (populated .put-number4 .ensures)) (c .before .before .put-number5 .ensures)
 
 pub cells-line-spec : {M : Type 1} → statement M
 cells-line-spec =
     tie.close
     (tie.spec (λ c. search needs) (λ c κs. search needs) (λ c κs. search needs) (λ c κs. search needs) (λ c κs. search needs)
-    (λ c κs. search needs) (λ c. search needs) returns)
+    (λ c κs. search needs) (λ c κs. search needs) (λ c. search needs) returns)

@@ -15,6 +15,7 @@ returns c =
       held-same (t .negative) (omega arith),
       held-same (t .zero) (omega arith),
       held-same (t .populated) (omega arith),
+      held-same (t .unbounded) (omega arith),
     )
 
 returns-2 : tie.Need-returns-2
@@ -26,6 +27,7 @@ returns-2 c =
       held-same (t .nodata) (omega arith),
       held-same (t .zero) (omega arith),
       held-same (t .populated) (omega arith),
+      held-same (t .unbounded) (omega arith),
     )
 
 returns-3 : tie.Need-returns-3
@@ -37,6 +39,7 @@ returns-3 c =
       held-same (t .nodata) (omega arith),
       held-same (t .negative) (omega arith),
       held-same (t .populated) (omega arith),
+      held-same (t .unbounded) (omega arith),
     )
 
 returns-4 : tie.Need-returns-4
@@ -48,10 +51,23 @@ returns-4 c =
       held-same (t .nodata) (omega arith),
       held-same (t .negative) (omega arith),
       held-same (t .zero) (omega arith),
+      held-same (t .unbounded) (omega arith),
+    )
+
+returns-5 : tie.Need-returns-5
+returns-5 c =
+    let t = c .before .before .before .args .self in
+    rw (
+      c .sum5 .ensures,
+      c .before .enum-told5 .given .1,
+      held-same (t .nodata) (omega arith),
+      held-same (t .negative) (omega arith),
+      held-same (t .zero) (omega arith),
+      held-same (t .populated) (omega arith),
     )
 
 pub with-spec : {M : Type 1} → statement M
 with-spec =
     tie.close
     (tie.spec (λ c. search needs) (λ c κs. search needs) (λ c. search needs) (λ c κs. search needs) (λ c. search needs) (λ c κs. search needs)
-    (λ c. search needs) (λ c κs. search needs) returns returns-2 returns-3 returns-4)
+    (λ c. search needs) (λ c κs. search needs) (λ c. search needs) (λ c κs. search needs) returns returns-2 returns-3 returns-4 returns-5)
