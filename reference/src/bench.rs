@@ -45,7 +45,8 @@ fn list() -> Vec<Entry> {
         entry("rem_euclid", bench_calls::rem_euclid),
         entry("great_circle_km", bench_calls::great_circle_km),
         entry("digest_row", bench_calls::digest_row),
-        entry("build_row", bench_calls::build_row),
+        entry("build_row", || bench_calls::build_row([0.0; 3])),
+        entry("build_row_lakes", || bench_calls::build_row([0.0, -1.0, f32::INFINITY])),
     ];
     for km in RADII {
         list.push(entry(format!("kernel_{km}"), move || bench_calls::kernel(MIDDLE_ROW, f64::from(km))));

@@ -184,12 +184,13 @@ struct BuildRow {
 }
 
 /// Half of the cells are populated, and some have the mark.
-pub fn build_row() -> Box<dyn Call> {
+/// Of eight cells, in any order: one unknown, three `empty` and four populated.
+pub fn build_row(empty: [f32; 3]) -> Box<dyn Call> {
     let mut r = Random(7);
     let floats: Vec<f32> = (0..COUNT)
         .map(|_| match r.below(8) {
             0 => f32::from_bits(plain::NODATA),
-            1..=3 => 0.0,
+            i @ 1..=3 => empty[i as usize - 1],
             _ => between(&mut r, 0.0, 1000.0) as f32,
         })
         .collect();

@@ -74,6 +74,7 @@ fn given(answer: Result<Builder, Refusal>) -> Answer {
 
 fn builder_words(b: Builder, total: f64) -> Answer {
     let tallies = [&b.tallies.fields()[..], &[b.digest]].concat();
-    let numbers = [[b.decimation.factor, b.nodata, b.rows].map(u64::from).to_vec(), vec![shown(total)]].concat();
-    [fields(b.decimation.source), fields(b.decimation.grid), tallies, six(numbers)].concat()
+    let [factor, nodata, rows] = [b.decimation.factor, b.nodata, b.rows].map(u64::from);
+    let numbers = six(vec![factor, nodata, rows, shown(total)]);
+    [fields(b.decimation.source), fields(b.decimation.grid), tallies, numbers].concat()
 }

@@ -17,12 +17,13 @@ fn add(counts: &mut Counts, name: &str) {
 /// The mark and the cells of a row that is sanitised.
 fn sanitised(number: u64, call: &[u64]) -> Option<(u32, Vec<u32>)> {
     let words = list(call, 0);
+    let patterns = |row: &[u64]| row.iter().map(|&bits| bits as u32).collect();
     match number {
-        0x40 => Some((Arguments(words).next() as u32, lent(call, 1).iter().map(|&bits| bits as u32).collect())),
+        0x40 => Some((Arguments(words).next() as u32, patterns(lent(call, 1)))),
         0x51 => {
             let (mut b, row) = (builder(words), lent(call, 5));
             let taken = refusals::build_row(&mut b, &mut cells_of(row), &mut lent_by(call).buffers());
-            taken.ok().map(|()| (b.nodata, row.iter().map(|&bits| bits as u32).collect()))
+            taken.ok().map(|()| (b.nodata, patterns(row)))
         }
         _ => None,
     }

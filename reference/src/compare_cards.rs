@@ -15,6 +15,10 @@ struct Verdicts {
     refused: BTreeMap<Refused, u64>,
     accepted: u64,
     circles: BTreeMap<String, u64>,
+    /// Accepted cards with an unbounded cell, and those of them whose total is shown in decimal.
+    unbounded: [u64; 2],
+    /// Cards with a count that is infinite or no number.
+    not_finite: u64,
 }
 
 impl Verdicts {
@@ -24,6 +28,11 @@ impl Verdicts {
             return;
         }
         self.accepted += 1;
+        if text.lines().any(|line| line.starts_with("cells ") && !line.ends_with(" 0")) {
+            self.unbounded[0] += 1;
+            self.unbounded[1] += u64::from(!text.contains("total bits"));
+        }
+        self.not_finite += u64::from(text.contains("bits 7FF") || text.contains("bits FFF"));
         for line in text.lines().filter(|line| line.starts_with("circle")) {
             let words: Vec<&str> = line.split(' ').skip(2).collect();
             let verdict = match words[..] {
@@ -43,6 +52,11 @@ impl Verdicts {
         let circles: Vec<String> =
             self.circles.iter().map(|(verdict, count)| format!("{verdict} {count}")).collect();
         println!("circles: {}", circles.join(", "));
+        let [unbounded, decimal] = self.unbounded;
+        println!(
+            "cards with unbounded cells: {unbounded}, of them with a total in decimal {decimal}; cards with a count that is not finite: {}",
+            self.not_finite
+        );
     }
 }
 
