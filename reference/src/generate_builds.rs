@@ -191,7 +191,7 @@ impl Random {
     fn wrap(&mut self, walk: &mut Walk) {
         let (one, other) = (self.below(5) as usize, 1 + self.below(4) as usize);
         let (one, other) = (16 + one, 16 + (one + other) % 5);
-        let both = walk.builder[one] + walk.builder[other];
+        let both = walk.builder[one].wrapping_add(walk.builder[other]);
         walk.builder[one] = u64::MAX - self.below(1 << 20);
         walk.builder[other] = both.wrapping_sub(walk.builder[one]);
     }
