@@ -18,7 +18,7 @@ const NODATA: [u32; 10] = [
 ];
 
 /// +infinity, −infinity, or a NaN with a payload.
-fn endless(r: &mut Random) -> u32 {
+fn not_finite(r: &mut Random) -> u32 {
     let nan = 0x7f80_0001 + r.below(0x7f_ffff) as u32;
     r.of(&[0x7f80_0000, 0x7f80_0000, 0xff80_0000, nan])
 }
@@ -27,7 +27,7 @@ fn cell(r: &mut Random, nodata: u32, kind: u64) -> u32 {
     match (kind, r.below(40)) {
         (_, 0) => nodata,
         (_, 1) => r.of(&[0, 0x8000_0000, 0x7fc0_0000, 0x7fc0_0001, 0xffc0_0000, 1, 0x8000_0001, 0xbf80_0000]),
-        (0 | 4, 2..=4) => endless(r),
+        (0 | 4, 2..=4) => not_finite(r),
         (0, _) | (1, _) => (r.below(2000) as f32).to_bits(),
         (2, _) => ((r.below(100_000) as f32) / 64.0).to_bits(),
         (3, _) => (r.below(1 << 40) as f32).to_bits(),
@@ -156,10 +156,10 @@ fn random_header(r: &mut Random, card: &mut [u8]) {
     let circles_at = place(r, 16 * u64::from(circles));
     for _ in 0..r.below(8) {
         let place = r.below(u64::from(width) * u64::from(height)) as usize;
-        put(card, rows_at as usize + 4 * place, &endless(r).to_le_bytes());
+        put(card, rows_at as usize + 4 * place, &not_finite(r).to_le_bytes());
     }
     if r.one_in(4) {
-        put(card, 40, &endless(r).to_le_bytes());
+        put(card, 40, &not_finite(r).to_le_bytes());
     }
     random_circles(r, card, [height / factor, width / factor], circles_at as usize, circles);
     let words =

@@ -23,7 +23,7 @@ impl Random {
     // ---- rows
 
     /// +infinity, −infinity, or a NaN of any sign and payload.
-    pub fn endless(&mut self) -> u64 {
+    pub fn not_finite(&mut self) -> u64 {
         match self.below(4) {
             0 | 1 => 0x7f80_0000,
             2 => 0xff80_0000,
@@ -38,7 +38,7 @@ impl Random {
                 self.pick(&[0xc61c_3c00, 0xff7f_ffff, 0xff7f_fffd, 0x7fc0_0000, 0x7fc0_0001, 0, 0x8000_0000])
             }
             2 => self.word() >> 32,
-            3 => self.endless(),
+            3 => self.not_finite(),
             _ => 0xc61c_3c00,
         }
     }
@@ -69,7 +69,7 @@ impl Random {
                 _ => bits(self.between(0.0, 1e6)),
             },
             Cells::Lakes => match self.below(6) {
-                0 => self.endless(),
+                0 => self.not_finite(),
                 1 => nodata,
                 _ => bits(self.below(1000) as f64),
             },

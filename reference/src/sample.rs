@@ -32,7 +32,7 @@ pub fn calls() -> Vec<Vec<u64>> {
     calls.extend(examples());
     calls.extend(zeros());
     calls.extend(wrong_lengths());
-    calls.extend(endless());
+    calls.extend(odd_cells());
     calls.extend(tallies());
     for (module, count, longest) in SEEDED {
         let numbers = numbers_of(module).unwrap_or_default();
@@ -176,25 +176,25 @@ fn wrong_lengths() -> Vec<Vec<u64>> {
 
 /// Calls of two or three floats, at the cases that document 01 and the reference name.
 /// +infinity, −infinity, NaNs of either sign with payloads, and the largest number.
-const ENDLESS: [u64; 6] = [0x7f80_0000, 0xff80_0000, 0x7f80_0001, 0x7fc0_0000, 0xffc0_0001, 0x7f7f_ffff];
+const ODD_CELLS: [u64; 6] = [0x7f80_0000, 0xff80_0000, 0x7f80_0001, 0x7fc0_0000, 0xffc0_0001, 0x7f7f_ffff];
 
 /// Document 02's C-12: each of them at each place of a row, under a mark that is none of them and under each; and
 /// +infinity at each place of a raster that is built at factors 1 and 2.
-fn endless() -> Vec<Vec<u64>> {
+fn odd_cells() -> Vec<Vec<u64>> {
     let row = |from: u8| [1, 2, 3, 4].map(|i| u64::from(f32::from(from + i).to_bits()));
     let mut calls = Vec::new();
-    for (cell, place) in ENDLESS.iter().flat_map(|&cell| [0, 1, 2, 3].map(|place| (cell, place))) {
-        for nodata in [&[0xc61c_3c00], &ENDLESS[..]].concat() {
+    for (cell, place) in ODD_CELLS.iter().flat_map(|&cell| [0, 1, 2, 3].map(|place| (cell, place))) {
+        for nodata in [&[0xc61c_3c00], &ODD_CELLS[..]].concat() {
             let mut row = row(0);
             row[place] = cell;
             calls.push(of_lists(0x40, &[&[nodata], &row]));
         }
     }
     for (factor, right) in [(1, [5, 5, 5, 15]), (2, [5, 5, 3, 6])] {
-        for (place, nodata) in (0..8).flat_map(|place| [(place, 0xc61c_3c00), (place, ENDLESS[0])]) {
+        for (place, nodata) in (0..8).flat_map(|place| [(place, 0xc61c_3c00), (place, ODD_CELLS[0])]) {
             let mut walk = Walk::new(&source(), 1, right);
             let mut cells = [row(0), row(4)].concat();
-            cells[place] = ENDLESS[0];
+            cells[place] = ODD_CELLS[0];
             walk.start(factor, nodata);
             walk.row(&cells[..4]);
             walk.row(&cells[4..]);

@@ -6,12 +6,11 @@ use mathlib.Core.Path.{_≡_}
 use mathlib.Core.Logic.{_⊎_, inl, inr}
 use mathlib.Core.List.{List, [], _∷_, _++_}
 use lib.Dec.{T}
-use lib.Ieee.{lt, ofBits}
-use lib.Ieee.Scale.{finite}
-use Rattle.float.specs.Float.{f64zero}
+use lib.Ieee.{ofBits}
+use lib.Ieee.Positive.{positive}
 use Rattle.refusal.specs.Refusal.{unlessRefused}
 use Rattle.raster.specs.Raster.{cellValue, kindOf, sanitised, sanitisedRow}
-use Rattle.raster.proofs.Sanitised.{Kept, unsigned-finite, sanitised-is}
+use Rattle.raster.proofs.Sanitised.{Kept, sanitised-is}
 use Rattle.grid.specs.declared.Grid.{Grid}
 use Rattle.ledger.specs.Ledger.{Call, row, finish, Ledger, entered, ledgerRefusal, ledgerStep, ledgerAfter, Every, wholeAt, WholeAsLent}
 
@@ -27,12 +26,12 @@ unfolding wholeAt ofBits
 whole-zero s = rw (zero-mul (2 ^ s)) tt
 
 module _ (s nodata : ℕ) where
-  cell-whole : (b : ℕ) → (T (finite (cellValue b)) → T (lt f64zero (cellValue b)) → Whole s b) → Whole s (sanitised nodata b)
+  cell-whole : (b : ℕ) → (T (positive (cellValue b)) → Whole s b) → Whole s (sanitised nodata b)
   cell-whole b w = go (sanitised-is nodata b)
     where
       go : (sanitised nodata b ≡ 0) ⊎ Kept (kindOf nodata b) b → Whole s (sanitised nodata b)
       go (inl z) = rw z (whole-zero s)
-      go (inr k) = rw (k .same) (w (rw (unsigned-finite (cellValue b) (k .plain)) tt) (rw (k .above) tt))
+      go (inr k) = rw (k .same) (w (k .above))
 
   row-whole : (r : List ℕ) → WholeAsLent s (row r) → Every (Whole s) (sanitisedRow nodata r)
   row-whole [] w = tt
