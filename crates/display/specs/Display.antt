@@ -1,11 +1,13 @@
--- FROM THE CARD TO THE DISPLAY: what `count` shows of a card whose cells are whole numbers of people, by document 01's ledger alone: no table, no
--- builder and no float sum stands here. Definitions only.
-use Prim.Native.Nat.{ℕ, zero, suc}
-use mathlib.Core.Bool.{Bool, _&&_, _||_}
+-- FROM THE CARD TO THE DISPLAY: what `count` shows of a card whose cells are whole multiples of 2 ^ -s, by document 01's ledger alone: no table, no
+-- builder and no sum of floats stands here. At s = 0 the cells are whole people. Definitions only.
+use Prim.Native.Nat.{ℕ, zero, suc, _/_, _%_, _^_}
+use mathlib.Core.Bool.{Bool, _&&_, _||_, cond}
 use mathlib.Core.List.{List, [], _∷_, _++_}
 use lib.Dec.{T, eqb, leb}
 use lib.ListN.{replicate}
+use lib.Ieee.{binary64, toBits}
 use Rattle.refusal.specs.Refusal.{Outcome, answered, refused}
+use Rattle.exact.specs.Units.{f64units}
 use Rattle.grid.specs.declared.Grid.{Grid}
 use Rattle.grid.specs.declared.Row.{Row}
 use Rattle.radius.specs.declared.RadiusKm.{RadiusKm}
@@ -13,7 +15,7 @@ use Rattle.kernel.specs.Kernel.{northRow, rowCount, halfWidths}
 use Rattle.area.specs.Area.{inCircle}
 use Rattle.ledger.specs.Ledger.{Call, row, Ledger, opened, ledgerAfter, sumIn}
 use Rattle.ledger.specs.Claim.{coveredIn}
-use Rattle.digits.specs.Digits.{decimal, space, newline}
+use Rattle.digits.specs.Digits.{decimal, hexDigits, bitsWord, space, newline}
 use Rattle.text.specs.Text.{totalWord, circleWord, circleRefusedLine, rowsLine, cellsLine}
 use Rattle.card.specs.declared.Header.{Header}
 use Rattle.card.specs.declared.CardCircle.{CardCircle}
@@ -33,33 +35,39 @@ abbrev pub cardLedger : List ℕ → Header → Ledger
 cardLedger card h = ledgerOf card h (h .decimation .source .height)
 
 -- the people of a circle: the sum of the source cells that it covers, by the rows and half-widths that its kernel has on the coarse grid
-unfoldable pub peopleCovered : List ℕ → Header → CardCircle → ℕ
-peopleCovered card h c =
+unfoldable pub peopleCovered : ℕ → List ℕ → Header → CardCircle → ℕ
+peopleCovered s card h c =
     let g : Grid = h .decimation .grid in
     let centre : Row = record { 0 = c .row } in
     let radius : RadiusKm = record { 0 = c .radius } in
-    coveredIn 0 (h .decimation .source) (cardLedger card h)
+    coveredIn s (h .decimation .source) (cardLedger card h)
     (inCircle (h .decimation .factor) (g .width) (northRow g centre radius) (rowCount g centre radius) (c .col)
     (halfWidths g centre radius (replicate (g .height) 0)))
 
--- a circle's line: its index and the people in decimal, or `refused` and the number of the first of 18, 19, 15, 17, 16 that fails
-abbrev pub peopleOr : ℕ → ℕ → ℕ → List ℕ
-peopleOr i zero people = circleWord ++ decimal i ++ space ++ decimal people ++ newline
-peopleOr i (suc n) people = circleRefusedLine i (suc n)
+-- document 02, C-23: n units of 2 ^ -s are shown in decimal where they are whole people, and else as the bits of n · 2 ^ -s, which is exact up to
+-- 2 ^ 53 units
+unfoldable pub unitsShown : ℕ → ℕ → List ℕ
+unitsShown s n = cond (eqb (n % 2 ^ s) 0) (decimal (n / 2 ^ s)) (bitsWord ++ hexDigits 16 (toBits binary64 (f64units s n)))
 
-abbrev pub circleShown : List ℕ → Header → ℕ → List ℕ
-circleShown card h i = peopleOr i (circleChecks (h .decimation .grid) (circleAt card h i)) (peopleCovered card h (circleAt card h i))
+-- a circle's line: its index and the people, or `refused` and the number of the first of 18, 19, 15, 17, 16 that fails
+abbrev pub peopleOr : ℕ → ℕ → ℕ → ℕ → List ℕ
+peopleOr s i zero people = circleWord ++ decimal i ++ space ++ unitsShown s people ++ newline
+peopleOr s i (suc n) people = circleRefusedLine i (suc n)
+
+abbrev pub circleShown : ℕ → List ℕ → Header → ℕ → List ℕ
+circleShown s card h i = peopleOr s i (circleChecks (h .decimation .grid) (circleAt card h i)) (peopleCovered s card h (circleAt card h i))
 
 -- the lines of the first n circles
-abbrev pub circlesShown : List ℕ → Header → ℕ → List ℕ
-circlesShown card h zero = []
-circlesShown card h (suc n) = circlesShown card h n ++ circleShown card h n
+abbrev pub circlesShown : ℕ → List ℕ → Header → ℕ → List ℕ
+circlesShown s card h zero = []
+circlesShown s card h (suc n) = circlesShown s card h n ++ circleShown s card h n
 
 -- `rows` and the height, `cells` and the ledger's tallies, `total` and the sum of the ledger's cells, then the circles
-abbrev pub displayed : List ℕ → Header → List ℕ
-displayed card h =
+abbrev pub displayed : ℕ → List ℕ → Header → List ℕ
+displayed s card h =
     let l = cardLedger card h in
-    rowsLine (h .decimation .source .height) ++ cellsLine (l .tallies) ++ (totalWord ++ decimal (sumIn 0 l) ++ newline) ++ circlesShown card h (h .circles)
+    rowsLine (h .decimation .source .height) ++ cellsLine (l .tallies) ++ (totalWord ++ unitsShown s (sumIn s l) ++ newline)
+    ++ circlesShown s card h (h .circles)
 
 -- ---- the numbers that a card's text can have, as docs/DISPLAY.md lists them
 

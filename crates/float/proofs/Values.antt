@@ -1,35 +1,21 @@
 -- The number of units of a float; a value is written in one way. Assumes nothing.
-use mathlib.Core.Path.{_≡_, refl, sym, ap, _∙_}
+use mathlib.Core.Path.{_≡_, sym, ap, _∙_}
 use mathlib.Core.Bool.{Bool, cond}
-use Prim.Native.Nat.{ℕ, _+_, _-_, _*_, _/_, _%_, _^_, _<_}
-use native.Mathlib.Nat.{div-eq-of-eq-mul-left, mul-mod-left, div-add-mod'}
+use Prim.Native.Nat.{ℕ, _+_, _-_, _*_, _/_, _^_, _<_}
+use native.Mathlib.Nat.{div-eq-of-eq-mul-left}
 use native.Mathlib.Omega.{arith}
-use lib.Dec.{T, eqb→eq}
-use lib.Ieee.{Float, nan, inf, fin, Format, prec, low, top, hid, up, down, size, fits, toBits, ofBits}
+use lib.Dec.{T}
+use lib.Ieee.{Float, fin, Format, prec, low, top, hid, up, down, size, fits, toBits, ofBits}
 use lib.Ieee.Bits.{ofBits-toBits}
 use lib.Ieee.Nearest.{div-same}
 use lib.Ieee.Fits.{down-pos}
 use lib.Ieee.Exact.{HasValue}
-use Rattle.float.specs.Units.{unitCount, wholeAt}
+use Rattle.float.specs.Units.{unitCount}
 
--- of a value that is n units the count is n, and it is whole
+-- of a value that is n units the count is n
 pub count-of : (x : Float) (sign : Bool) (n s : ℕ) → HasValue x sign n (2 ^ s) → unitCount s x ≡ n
 unfolding unitCount
 count-of (fin t m e) sign n s h = div-eq-of-eq-mul-left (down-pos e) (h .1)
-
-pub whole-of : (x : Float) (sign : Bool) (n s : ℕ) → HasValue x sign n (2 ^ s) → T (wholeAt s x)
-unfolding wholeAt
-whole-of (fin t m e) sign n s h = rw (h .1, mul-mod-left n (down e)) tt
-
--- what is whole is as many units as are counted
-pub whole-value : (s : ℕ) (x : Float) → T (wholeAt s x) → (sign : Bool) × HasValue x sign (unitCount s x) (2 ^ s)
-unfolding unitCount wholeAt
-whole-value s nan h = absurd h
-whole-value s (inf t) h = absurd h
-whole-value s (fin t m e) h =
-    let a = m * up e * 2 ^ s in
-    let z = eqb→eq (a % down e) 0 h in
-    (t, (refl, omega (arith, z, div-add-mod' a (down e))))
 
 -- ---- one value is written in one way: its bit pattern is made of its sign and its size
 bits-of : (f : Format) (x : Float) (s : Bool) (n c : ℕ) → 0 < c → HasValue x s n c → toBits f x ≡ (let N =

@@ -2,7 +2,7 @@
 -- is finite and above 0 is. Assumes nothing.
 use Prim.Native.Nat.{ℕ, zero, suc, _^_}
 use native.Mathlib.Nat.{zero-mul}
-use mathlib.Core.Path.{_≡_}
+use mathlib.Core.Path.{_≡_, refl}
 use mathlib.Core.Logic.{_⊎_, inl, inr}
 use mathlib.Core.List.{List, [], _∷_, _++_}
 use lib.Dec.{T}
@@ -12,18 +12,15 @@ use Rattle.refusal.specs.Refusal.{unlessRefused}
 use Rattle.raster.specs.Raster.{cellValue, kindOf, sanitised, sanitisedRow}
 use Rattle.raster.proofs.Sanitised.{Kept, sanitised-is}
 use Rattle.grid.specs.declared.Grid.{Grid}
-use Rattle.ledger.specs.Ledger.{Call, row, finish, Ledger, entered, ledgerRefusal, ledgerStep, ledgerAfter, Every, wholeAt, WholeAsLent}
-
-abbrev Whole : ℕ → ℕ → Type 0
-Whole s bits = T (wholeAt s (cellValue bits))
+use Rattle.ledger.specs.Ledger.{Call, row, finish, Ledger, entered, ledgerRefusal, ledgerStep, ledgerAfter, Every, Whole, WholeAsLent}
 
 every-and : {A : Type 0} (P : A → Type 0) (l : List A) (x : A) → Every P l → P x → Every P (l ++ x ∷ [])
 every-and P [] x h p = (p, tt)
 every-and P (y ∷ l) x h p = (h .0, every-and P l x (h .1) p)
 
 whole-zero : (s : ℕ) → Whole s 0
-unfolding wholeAt ofBits
-whole-zero s = rw (zero-mul (2 ^ s)) tt
+unfolding ofBits
+whole-zero s = (0, (refl, zero-mul (2 ^ s)))
 
 module _ (s nodata : ℕ) where
   cell-whole : (b : ℕ) → (T (positive (cellValue b)) → Whole s b) → Whole s (sanitised nodata b)
