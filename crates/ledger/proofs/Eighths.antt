@@ -5,7 +5,7 @@ use mathlib.Core.Path.{_≡_, refl}
 use mathlib.Core.List.{List, [], _∷_}
 use lib.Dec.{lit≤}
 use lib.ListN.{getD, replicate}
-use lib.Ieee.{nan, binary64, ofBits, neg, add, sub, mul, lt, le, eq, ofInt}
+use lib.Ieee.{nan, binary64, ofBits, neg, add, sub, mul, lt, le, eq, ofInt, round}
 use Rattle.refusal.specs.Refusal.{answered}
 use Rattle.float.specs.Constants.{f64p90, f64p180}
 use Rattle.geodesy.specs.Sphere.{wrapLon}
@@ -13,7 +13,7 @@ use Rattle.grid.specs.declared.Grid.{Grid}
 use Rattle.grid.specs.Grid.{gridRefusal, validGrid}
 use Rattle.grid.proofs.Same.{same-self}
 use Rattle.raster.specs.Raster.{kindOf}
-use Rattle.exact.specs.Units.{unitCount, Exactly}
+use Rattle.exact.specs.Units.{unitCount, f64units, Exactly}
 use Rattle.table.specs.Place.{tableLength}
 use Rattle.decimation.specs.Decimation.{coarseGrid, factorRefusal}
 use Rattle.builder.specs.Build.{Buffers, buffers, lentRefusal, startRefusal, firstBuilder, startCall}
@@ -25,6 +25,7 @@ use Rattle.area.proofs.Asked.{through}
 use Rattle.ledger.specs.Ledger.{Call, row, finish, Ledger, opened, ledgerRefusal, ledgerStep, ledgerAfter, sumIn, WholeAndSmall}
 use Rattle.ledger.specs.Counter.{Counter, counterAfter, total}
 use Rattle.ledger.specs.Claim.{Counts, coveredIn, KernelOn, Faithful}
+use Rattle.ledger.proofs.Cells.{rows-whole}
 use Rattle.ledger.proofs.Theorem.{demand-3}
 
 -- around the globe from latitude 90 and longitude −180, steps 45 and −90
@@ -56,42 +57,10 @@ after = ledgerAfter grid mark opened calls
 
 -- sanitised, every cell is so many eighths, and all are at most 2 ^ 50 people
 eighths : WholeAndSmall 3 after
-unfolding grid mark calls after ledgerStep ledgerRefusal kindOf lt eq ofBits unitCount sumOfRows
+unfolding grid mark calls after ledgerStep ledgerRefusal kindOf lt eq ofBits unitCount f64units round sumOfRows
 eighths =
-    record {
-      whole = (
-        (
-          (1, (refl, refl)),
-          (
-            (20, (refl, refl)),
-            (
-              (0, (refl, refl)),
-              (
-                (16, (refl, refl)),
-                ((0, (refl, refl)), ((0, (refl, refl)), ((4, (refl, refl)), ((3, (refl, refl)), tt)))),
-              ),
-            ),
-          ),
-        ),
-        (
-          (
-            (0, (refl, refl)),
-            (
-              (0, (refl, refl)),
-              (
-                (7, (refl, refl)),
-                (
-                  (0, (refl, refl)),
-                  ((80, (refl, refl)), ((8, (refl, refl)), ((0, (refl, refl)), ((2, (refl, refl)), tt)))),
-                ),
-              ),
-            ),
-          ),
-          tt,
-        ),
-      );
-      small = lit≤ tt;
-    }
+    let ns : List (List ℕ) = (1 ∷ 20 ∷ 0 ∷ 16 ∷ 0 ∷ 0 ∷ 4 ∷ 3 ∷ []) ∷ (0 ∷ 0 ∷ 7 ∷ 0 ∷ 80 ∷ 8 ∷ 0 ∷ 2 ∷ []) ∷ [] in
+    record { whole = rows-whole 3 (lit≤ tt) (after .cells) ns refl (lit≤ tt); small = lit≤ tt }
 
 -- ---- the two counters
 
