@@ -1,16 +1,17 @@
 // A card read as document 01 says, and what `count` prints of it, by the copies of the reference's modules.
 use crate::geodesy::{LatLon, RadiusError, RadiusKm};
 use crate::grid::{Col, Grid, Row};
+use crate::kernel::Kernel;
 use crate::refusals::{self, KernelFields, Refusal};
 use crate::table::{self, Buffers, Decimation};
 use std::fmt::Write as _;
 
 pub struct Header {
-    decimation: Decimation,
-    nodata: u32,
-    rows_at: usize,
-    circles: usize,
-    circles_at: usize,
+    pub decimation: Decimation,
+    pub nodata: u32,
+    pub rows_at: usize,
+    pub circles: usize,
+    pub circles_at: usize,
 }
 
 pub fn word(card: &[u8], at: usize) -> u32 {
@@ -125,16 +126,21 @@ fn shown(x: f64) -> String {
     }
 }
 
-/// 18, 19, 15, 17, 16, or the people.
-fn people(grid: &Grid, cells: &[f64], row: u32, col: u32, km: f64) -> Result<f64, Refusal> {
+/// 18, 19, 15, 17, or the kernel.
+pub fn kernel(grid: &Grid, row: u32, km: f64, half_widths: &mut [u32]) -> Result<Kernel, Refusal> {
     if let Err(error) = RadiusKm::new(km) {
         return Err(match error {
             RadiusError::NotFinite => 18,
             RadiusError::Negative => 19,
         });
     }
+    refusals::new_kernel(*grid, Row(row), km, half_widths)
+}
+
+/// 18, 19, 15, 17, 16, or the people.
+fn people(grid: &Grid, cells: &[f64], row: u32, col: u32, km: f64) -> Result<f64, Refusal> {
     let mut half_widths = vec![0; grid.height as usize];
-    let kernel = refusals::new_kernel(*grid, Row(row), km, &mut half_widths)?;
+    let kernel = kernel(grid, row, km, &mut half_widths)?;
     let fields = KernelFields { grid: *grid, centre: row, km, north: kernel.north.0, count: kernel.count };
     refusals::circle_population(grid, cells, fields, &half_widths, Col(col))
 }

@@ -8,6 +8,7 @@ mod card_text;
 mod circle;
 mod compare_cards;
 mod generate_cards;
+mod generate_shares;
 mod geodesy;
 mod grid;
 mod kernel;
@@ -16,6 +17,8 @@ mod progress;
 mod random;
 mod raster;
 mod refusals;
+mod share_counts;
+mod shares;
 mod stand_ins;
 mod table;
 

@@ -1,8 +1,9 @@
 // Many generated cards through the Rust and through what is to print the same.
 use crate::answer_card::{answer, header, Check, Refused};
-use crate::generate_cards::{card, Kind};
+use crate::generate_cards::{card_and_shares, Kind};
 use crate::progress::Progress;
-use crate::{card_text, made};
+use crate::share_counts::ShareCounts;
+use crate::{card_text, made, shares};
 use std::collections::BTreeMap;
 use std::fs::{self, File};
 use std::io::Write;
@@ -72,7 +73,7 @@ fn label(by: Refused) -> String {
     }
 }
 
-/// N cards; `ours` gives what is printed of one, or what went wrong.
+/// N cards; `ours` gives what is printed of one, or what went wrong. Cards of shares are counted in whole numbers too.
 fn run(
     seed: u64,
     count: u64,
@@ -80,28 +81,39 @@ fn run(
     mut ours: impl FnMut(&[u8]) -> Result<Vec<u8>, String>,
 ) -> Result<Duration, String> {
     let mut verdicts = Verdicts::default();
+    let mut share_counts = None;
     let mut progress = Progress::new(count, "cards");
     let mut rust = Duration::ZERO;
     for i in 0..count {
-        let card = card(seed, i, kind);
+        let (card, made_by) = card_and_shares(seed, i, kind);
         let began = Instant::now();
         let expected = answer(&card);
         rust += began.elapsed();
-        let printed = ours(&card);
-        if printed.as_ref().is_ok_and(|printed| printed == expected.as_bytes()) {
-            verdicts.add(&card, &expected);
-            progress.at(i + 1);
-            continue;
+        let which = || format!("card {i} of seed {seed}");
+        same(&card, &expected, ours(&card), "here").map_err(|differs| which() + &differs)?;
+        verdicts.add(&card, &expected);
+        if let Some(by) = made_by {
+            let whole = shares::answer(&card, by.scale).map_err(|wrong| format!("{}: {wrong}", which()))?;
+            let text = whole.text.into_bytes();
+            same(&card, &expected, Ok(text), "whole numbers").map_err(|differs| which() + &differs)?;
+            let counts = share_counts.get_or_insert_with(ShareCounts::default);
+            whole.met.iter().for_each(|met| counts.add(by, met, &expected));
         }
-        _ = fs::write("target/reference/differs.card", &card);
-        let printed = printed.map_or_else(|wrong| wrong, |text| String::from_utf8_lossy(&text).into_owned());
-        return Err(format!(
-            "card {i} of seed {seed} differs; it is in target/reference/differs.card\nrust:\n{expected}\nhere:\n{printed}"
-        ));
+        progress.at(i + 1);
     }
     println!("{count} cards, no difference");
     verdicts.print();
+    share_counts.iter().for_each(ShareCounts::print);
     Ok(rust)
+}
+
+fn same(card: &[u8], expected: &str, printed: Result<Vec<u8>, String>, by: &str) -> Result<(), String> {
+    if printed.as_ref().is_ok_and(|printed| printed == expected.as_bytes()) {
+        return Ok(());
+    }
+    _ = fs::write("target/reference/differs.card", card);
+    let printed = printed.map_or_else(|wrong| wrong, |text| String::from_utf8_lossy(&text).into_owned());
+    Err(format!(" differs; it is in target/reference/differs.card\nrust:\n{expected}\n{by}:\n{printed}"))
 }
 
 /// Through the proved code, linked from the crate `exports`.

@@ -1,24 +1,25 @@
 // Cards, good and damaged. Each depends on the seed and its own number alone.
+use crate::generate_shares::{self, Shares};
 use crate::make_card::laid_out;
 use crate::random::Random;
 
 impl Random {
-    fn of<T: Copy>(&mut self, list: &[T]) -> T {
+    pub fn of<T: Copy>(&mut self, list: &[T]) -> T {
         list[self.below(list.len() as u64) as usize]
     }
 
-    fn one_in(&mut self, n: u64) -> bool {
+    pub fn one_in(&mut self, n: u64) -> bool {
         self.below(n) == 0
     }
 }
 
 #[rustfmt::skip]
-const NODATA: [u32; 10] = [
+pub const NODATA: [u32; 10] = [
     0xc61c_3c00, 0xc61c_3c00, 0, 0x8000_0000, 0x7fc0_0000, 0x7fc0_0001, 0xff7f_ffff, 0x3f80_0000, 0x7f80_0000, 0xff80_0000,
 ];
 
 /// +infinity, −infinity, or a NaN with a payload.
-fn not_finite(r: &mut Random) -> u32 {
+pub fn not_finite(r: &mut Random) -> u32 {
     let nan = 0x7f80_0001 + r.below(0x7f_ffff) as u32;
     r.of(&[0x7f80_0000, 0x7f80_0000, 0xff80_0000, nan])
 }
@@ -47,8 +48,22 @@ fn radius(r: &mut Random) -> f64 {
     }
 }
 
-/// A card that most of the checks pass.
-fn good(r: &mut Random) -> Vec<u8> {
+/// A card without its cells, its mark and its circles.
+pub struct Layout {
+    pub size: [u32; 2],
+    degrees: [f64; 4],
+    factor: u32,
+}
+
+impl Layout {
+    pub fn card(&self, nodata: u32, cells: &[u32], circles: &[u8]) -> Vec<u8> {
+        let rows: Vec<u8> = cells.iter().flat_map(|cell| cell.to_le_bytes()).collect();
+        laid_out(self.size, self.degrees, nodata, self.factor, &rows, circles)
+    }
+}
+
+/// A layout that most of the checks pass.
+pub fn layout(r: &mut Random) -> Layout {
     let factor = r.of(&[1, 1, 1, 2, 2, 3, 4, 5, 6]);
     let small = |r: &mut Random, most: u64| (r.below(most) + 1) as u32 * factor;
     let (mut width, mut height) = (small(r, 12), small(r, 8));
@@ -63,21 +78,35 @@ fn good(r: &mut Random) -> Vec<u8> {
     let lat = if r.one_in(2) { 90.0 } else { 90.0 - r.below(60) as f64 };
     let lat_step = -((lat + 90.0) / f64::from(height)) * r.of(&[1.0, 1.0, 0.5, 0.9]);
     let lon = r.of(&[-180.0, -180.0, 0.0, 179.99, 540.0, -180.00000000000003, 12.5]);
-    let nodata = r.of(&NODATA);
-    let kind = r.below(6);
-    let rows: Vec<u8> = (0..width * height).flat_map(|_| cell(r, nodata, kind).to_le_bytes()).collect();
+    Layout { size: [width, height], degrees: [lat, lon, lon_step, lat_step], factor }
+}
+
+/// Up to eight circles, on the grid and one step off it.
+pub fn circles(r: &mut Random, layout: &Layout) -> Vec<u8> {
+    let [width, height] = layout.size;
     let mut circles = Vec::new();
     for _ in 0..r.below(9) {
         let place = |r: &mut Random, n: u32| {
             let past = u64::from(r.one_in(9));
-            r.below(u64::from(n / factor) + past) as u32
+            r.below(u64::from(n / layout.factor) + past) as u32
         };
         let (row, col) = (place(r, height), place(r, width));
         circles.extend(row.to_le_bytes());
         circles.extend(col.to_le_bytes());
         circles.extend(radius(r).to_le_bytes());
     }
-    laid_out([width, height], [lat, lon, lon_step, lat_step], nodata, factor, &rows, &circles)
+    circles
+}
+
+/// A card that most of the checks pass.
+fn good(r: &mut Random) -> Vec<u8> {
+    let layout = layout(r);
+    let nodata = r.of(&NODATA);
+    let kind = r.below(6);
+    let [width, height] = layout.size;
+    let cells: Vec<u32> = (0..width * height).map(|_| cell(r, nodata, kind)).collect();
+    let circles = circles(r, &layout);
+    layout.card(nodata, &cells, &circles)
 }
 
 const WORDS: [u32; 12] = [0, 1, 2, 3, 7, 64, 90, 4095, 4096, 1_048_576, 1_048_577, u32::MAX];
@@ -225,6 +254,8 @@ pub enum Kind {
     Worst,
     /// Good ones with up to two damages.
     Mixed,
+    /// Cells that are shares of a person.
+    Shares,
 }
 
 impl Kind {
@@ -235,15 +266,21 @@ impl Kind {
             "random" => Some(Self::Random),
             "worst" => Some(Self::Worst),
             "mixed" => Some(Self::Mixed),
+            "shares" => Some(Self::Shares),
             _ => None,
         }
     }
 }
 
 pub fn card(seed: u64, number: u64, kind: Kind) -> Vec<u8> {
+    card_and_shares(seed, number, kind).0
+}
+
+/// The card, and of one of shares what it was made by.
+pub fn card_and_shares(seed: u64, number: u64, kind: Kind) -> (Vec<u8>, Option<Shares>) {
     let mut r = Random(seed.wrapping_mul(0x2545_f491_4f6c_dd1d) ^ number.wrapping_mul(0x9e37_79b9_7f4a_7c15));
     r.word();
-    match kind {
+    let card = match kind {
         Kind::Good => good(&mut r),
         Kind::Random => random(&mut r),
         Kind::Worst => worst(&mut r),
@@ -255,5 +292,10 @@ pub fn card(seed: u64, number: u64, kind: Kind) -> Vec<u8> {
             }
             card
         }
-    }
+        Kind::Shares => {
+            let (card, shares) = generate_shares::card(&mut r);
+            return (card, Some(shares));
+        }
+    };
+    (card, None)
 }
