@@ -44,8 +44,8 @@ peopleCovered s card h c =
     (inCircle (h .decimation .factor) (g .width) (northRow g centre radius) (rowCount g centre radius) (c .col)
     (halfWidths g centre radius (replicate (g .height) 0)))
 
--- document 02, C-23: n units of 2 ^ -s are shown in decimal where they are whole people, and else as the bits of n · 2 ^ -s, which is exact up to
--- 2 ^ 53 units
+-- document 02, C-23: n units of 2 ^ -s are shown in decimal where they are whole people, and else as the bits of n · 2 ^ -s; up to 2 ^ 53 units
+-- nothing of that is rounded (`units-value` of exact)
 unfoldable pub unitsShown : ℕ → ℕ → List ℕ
 unitsShown s n = cond (eqb (n % 2 ^ s) 0) (decimal (n / 2 ^ s)) (bitsWord ++ hexDigits 16 (toBits binary64 (f64units s n)))
 

@@ -25,7 +25,7 @@ use Rattle.area.proofs.Asked.{through}
 use Rattle.ledger.specs.Ledger.{Call, row, finish, Ledger, opened, ledgerRefusal, ledgerStep, ledgerAfter, sumIn, WholeAndSmall}
 use Rattle.ledger.specs.Counter.{Counter, counterAfter, total}
 use Rattle.ledger.specs.Claim.{Counts, coveredIn, KernelOn, Faithful}
-use Rattle.ledger.proofs.Cells.{rows-whole}
+use Rattle.ledger.proofs.Cells.{rows-of-units}
 use Rattle.ledger.proofs.Theorem.{demand-3}
 
 -- around the globe from latitude 90 and longitude −180, steps 45 and −90
@@ -60,7 +60,7 @@ eighths : WholeAndSmall 3 after
 unfolding grid mark calls after ledgerStep ledgerRefusal kindOf lt eq ofBits unitCount f64units round sumOfRows
 eighths =
     let ns : List (List ℕ) = (1 ∷ 20 ∷ 0 ∷ 16 ∷ 0 ∷ 0 ∷ 4 ∷ 3 ∷ []) ∷ (0 ∷ 0 ∷ 7 ∷ 0 ∷ 80 ∷ 8 ∷ 0 ∷ 2 ∷ []) ∷ [] in
-    record { whole = rows-whole 3 (lit≤ tt) (after .cells) ns refl (lit≤ tt); small = lit≤ tt }
+    record { whole = rows-of-units 3 (lit≤ tt) (after .cells) ns refl (lit≤ tt); small = lit≤ tt }
 
 -- ---- the two counters
 
