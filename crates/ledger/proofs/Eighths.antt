@@ -11,22 +11,21 @@ use Rattle.float.specs.Constants.{f64p90, f64p180}
 use Rattle.geodesy.specs.Sphere.{wrapLon}
 use Rattle.grid.specs.declared.Grid.{Grid}
 use Rattle.grid.specs.Grid.{gridRefusal, validGrid}
-use Rattle.grid.proofs.Same.{same-self}
 use Rattle.raster.specs.Raster.{kindOf}
 use Rattle.exact.specs.Units.{unitCount, f64units, Exactly}
 use Rattle.table.specs.Place.{tableLength}
 use Rattle.decimation.specs.Decimation.{coarseGrid, factorRefusal}
 use Rattle.builder.specs.Build.{Buffers, buffers, lentRefusal, startRefusal, firstBuilder, startCall}
 use Rattle.table.specs.Rectangle.{rowBand, rectanglePopulation}
-use Rattle.kernel.specs.declared.Kernel.{Kernel}
 use Rattle.circle.specs.Circle.{circlePopulation}
 use Rattle.area.specs.Area.{counted, sumOfRows, inSpan, inRectangle, inRow, inCircle}
 use Rattle.area.proofs.Asked.{through}
 use Rattle.ledger.specs.Ledger.{Call, row, finish, Ledger, opened, ledgerRefusal, ledgerStep, ledgerAfter, sumIn, WholeAndSmall}
 use Rattle.ledger.specs.Counter.{Counter, counterAfter, total}
-use Rattle.ledger.specs.Claim.{Counts, coveredIn, KernelOn, Faithful}
+use Rattle.ledger.specs.Claim.{Counts, coveredIn, Faithful}
 use Rattle.ledger.proofs.Cells.{rows-of-units}
 use Rattle.ledger.proofs.Theorem.{demand-3}
+use Rattle.ledger.proofs.Examples.{kernel, kernel-on}
 
 -- around the globe from latitude 90 and longitude −180, steps 45 and −90
 grid : Grid
@@ -129,71 +128,29 @@ seam₂ : Counts 3 30 (rectanglePopulation (coarseGrid grid 2) (counter₂ .lent
 unfolding grid mark calls counter₂ after coarseGrid ledgerStep ledgerRefusal
 seam₂ = rw seam₂-covers at (both .1 .after .rectangle eighths refl (rowBand 0 0) (through 3 0) (lit≤ tt) (lit≤ tt) (lit≤ tt, lit≤ tt))
 
--- a circle around column 0 at factor 1: half-width 1 in row 0, 2 in row 1
-kernel₁ : Kernel
-unfolding grid
-kernel₁ = record {
-  grid = coarseGrid grid 1;
-  centre = record { 0 = 0 };
-  radius = record { 0 = ofBits binary64 0x40b3_8800_0000_0000 };
-  north = record { 0 = 0 };
-  count = 2;
-}
+-- a circle around column 0, at factor 1 with half-width 1 in row 0 and 2 in row 1
+circle₁-covers : coveredIn 3 grid after (inCircle 1 8 0 2 0 (1 ∷ 2 ∷ [])) ≡ 33
+unfolding grid mark calls after ledgerStep ledgerRefusal kindOf lt eq ofBits unitCount counted inRow
+circle₁-covers = refl
 
-kernel₁-on : KernelOn (coarseGrid grid 1) kernel₁ (1 ∷ 2 ∷ [])
-unfolding grid kernel₁ gridRefusal coarseGrid wrapLon le lt eq neg add sub mul ofInt ofBits
-kernel₁-on = record {
-  same = same-self (coarseGrid grid 1);
-  checks = refl;
-  lon = refl;
-  finite-radius = refl;
-  not-below = refl;
-  rows = lit≤ tt;
-  slice = lit≤ tt;
-  half = narrow;
-}
+circle₁ : Counts 3 33 (circlePopulation (coarseGrid grid 1) (counter₁ .lent .table) (kernel (coarseGrid grid 1) 2) (1 ∷ 2 ∷ []) (record { 0 = 0 }))
+unfolding grid mark calls counter₁ after gridRefusal coarseGrid wrapLon ledgerStep ledgerRefusal le lt eq neg add sub mul ofInt ofBits
+circle₁ =
+    let on = kernel-on (coarseGrid grid 1) 2 (1 ∷ 2 ∷ []) refl refl (lit≤ tt) (lit≤ tt) narrow in
+    rw circle₁-covers at (both .0 .after .circle eighths refl (kernel (coarseGrid grid 1) 2) (1 ∷ 2 ∷ []) (record { 0 = 0 }) on (lit≤ tt))
   where
     narrow : (i : ℕ) → i < 2 → getD (1 ∷ 2 ∷ []) i 0 ≤ 4
     narrow zero q = lit≤ tt
     narrow (suc zero) q = lit≤ tt
     narrow (suc (suc i)) q = absurd (omega arith)
 
-circle₁-covers : coveredIn 3 grid after (inCircle 1 8 0 2 0 (1 ∷ 2 ∷ [])) ≡ 33
-unfolding grid mark calls after ledgerStep ledgerRefusal kindOf lt eq ofBits unitCount counted inRow
-circle₁-covers = refl
-
-circle₁ : Counts 3 33 (circlePopulation (coarseGrid grid 1) (counter₁ .lent .table) kernel₁ (1 ∷ 2 ∷ []) (record { 0 = 0 }))
-unfolding grid mark calls counter₁ after kernel₁ coarseGrid ledgerStep ledgerRefusal
-circle₁ = rw circle₁-covers at (both .0 .after .circle eighths refl kernel₁ (1 ∷ 2 ∷ []) (record { 0 = 0 }) kernel₁-on (lit≤ tt))
-
--- and at factor 2: half-width 1 around column 0, which are source columns 6, 7 and 0 to 3 of both rows
-kernel₂ : Kernel
-unfolding grid
-kernel₂ = record {
-  grid = coarseGrid grid 2;
-  centre = record { 0 = 0 };
-  radius = record { 0 = ofBits binary64 0x40b3_8800_0000_0000 };
-  north = record { 0 = 0 };
-  count = 1;
-}
-
-kernel₂-on : KernelOn (coarseGrid grid 2) kernel₂ (1 ∷ [])
-unfolding grid kernel₂ gridRefusal coarseGrid wrapLon le lt eq neg add sub mul ofInt ofBits
-kernel₂-on = record {
-  same = same-self (coarseGrid grid 2);
-  checks = refl;
-  lon = refl;
-  finite-radius = refl;
-  not-below = refl;
-  rows = lit≤ tt;
-  slice = lit≤ tt;
-  half = λ i q. let first : i ≡ 0 = omega arith in rw first (lit≤ tt);
-}
-
+-- and at factor 2 with half-width 1, which are source columns 6, 7 and 0 to 3 of both rows
 circle₂-covers : coveredIn 3 grid after (inCircle 2 4 0 1 0 (1 ∷ [])) ≡ 53
 unfolding grid mark calls after ledgerStep ledgerRefusal kindOf lt eq ofBits unitCount counted inRow
 circle₂-covers = refl
 
-circle₂ : Counts 3 53 (circlePopulation (coarseGrid grid 2) (counter₂ .lent .table) kernel₂ (1 ∷ []) (record { 0 = 0 }))
-unfolding grid mark calls counter₂ after kernel₂ coarseGrid ledgerStep ledgerRefusal
-circle₂ = rw circle₂-covers at (both .1 .after .circle eighths refl kernel₂ (1 ∷ []) (record { 0 = 0 }) kernel₂-on (lit≤ tt))
+circle₂ : Counts 3 53 (circlePopulation (coarseGrid grid 2) (counter₂ .lent .table) (kernel (coarseGrid grid 2) 1) (1 ∷ []) (record { 0 = 0 }))
+unfolding grid mark calls counter₂ after gridRefusal coarseGrid wrapLon ledgerStep ledgerRefusal le lt eq neg add sub mul ofInt ofBits
+circle₂ =
+    let on = kernel-on (coarseGrid grid 2) 1 (1 ∷ []) refl refl (lit≤ tt) (lit≤ tt) (λ i q. let first : i ≡ 0 = omega arith in rw first (lit≤ tt)) in
+    rw circle₂-covers at (both .1 .after .circle eighths refl (kernel (coarseGrid grid 2) 1) (1 ∷ []) (record { 0 = 0 }) on (lit≤ tt))
