@@ -1,2 +1,2 @@
--- What the display shows of a whole-celled card. The theorem is `display` of proofs/Theorem.
+-- What the display shows of a card whose cells are whole multiples of 2 ^ -s. The theorem is `display` of proofs/Theorem.
 pub mod Display
