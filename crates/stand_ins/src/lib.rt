@@ -1,10 +1,25 @@
 // Document 01, 'Geodesy': the stand-ins for sine, cosine, arctangent and arccosine. Every public function takes every value.
 ghost use mathlib.Core.Path.{_≡_};
-ghost use Prim.Native.Nat.{_<_, _≤_};
-ghost use Rattle.stand_ins.specs.StandIns.{sineTerm, sinOf, cosineTerm, cosOf, arctanTerm, arctanSeries, halved as halvedOf, arctanOf, atan2Of, acosOf};
+ghost use mathlib.Core.Bool.{cond};
+ghost use Prim.Native.Nat.{_+_, _-_, _*_, _<_, _≤_};
+ghost use lib.Ieee.{binary64, div, eq};
+ghost use Rattle.float.specs.Float.{f64zero, f64one, f64of};
+ghost use Rattle.stand_ins.specs.StandIns.{downward, sineTerm, sinOf, cosineTerm, cosOf, arctanTerm, halved as halvedOf, arctanOf, atan2Of, acosOf};
 ghost use Rattle.stand_ins.specs.StandIns.{toRadians, toDegrees};
 
 pub const PI: f64 = 3.141592653589793;
+
+// How many turns a series takes: all, but at 0 one, which gives what all give. So the compiler does not know the number, and the
+// program works each divisor out from k: docs/DECISIONS.md, 'Divisors from k'.
+fn turns(x: f64, all: u32) -> u32
+    requires { ⌜ 0 < all ⌝ }
+    ensures { λ r. ⌜ (r ≡ cond (eq x f64zero) 1 all) × (0 < r) × (r ≤ all) ⌝ }
+{
+    if x == 0.0 {
+        return 1;
+    }
+    all
+}
 
 // One turn of the sine's loop.
 fn sine_term(z: f64, k: u32, s: f64) -> f64
@@ -19,7 +34,7 @@ pub fn sin(x: f64) -> f64
 {
     let z = x * x;
     let mut s = 1.0;
-    let mut k = 10;
+    let mut k = turns(x, 10);
     while 0 < k {
         s = sine_term(z, k, s);
         k -= 1;
@@ -40,7 +55,7 @@ pub fn cos(x: f64) -> f64
 {
     let z = x * x;
     let mut c = 1.0;
-    let mut k = 15;
+    let mut k = turns(x, 15);
     while 0 < k {
         c = cosine_term(z, k, c);
         k -= 1;
@@ -48,20 +63,29 @@ pub fn cos(x: f64) -> f64
     c
 }
 
+// The arctangent's reciprocal for k.
+fn reciprocal(k: u32) -> f64
+    requires { ⌜ k ≤ 15 ⌝ }
+    ensures { λ r. ⌜ r ≡ div binary64 f64one (f64of (2 * k + 1)) ⌝ }
+{
+    1.0 / ((2 * k + 1) as f64)
+}
+
 // One turn of the arctangent's loop.
 fn arctan_term(w: f64, k: u32, a: f64) -> f64
     requires { ⌜ k ≤ 15 ⌝ }
     ensures { λ r. ⌜ r ≡ arctanTerm w k a ⌝ }
 {
-    1.0 / ((2 * k + 1) as f64) - w * a
+    reciprocal(k) - w * a
 }
 
-// The arctangent's series in the square of the tangent.
-fn arctan_series(w: f64) -> f64
-    ensures { λ r. ⌜ r ≡ arctanSeries w ⌝ }
+// The arctangent's series in the square of the tangent, from its turn k on.
+fn arctan_series(w: f64, last: u32) -> f64
+    requires { ⌜ (0 < last) × (last ≤ 15) ⌝ }
+    ensures { λ r. ⌜ r ≡ arctanTerm w 0 (downward (arctanTerm w) (last - 1) (div binary64 f64one (f64of (2 * last + 1)))) ⌝ }
 {
-    let mut a = 1.0 / 21.0;
-    let mut k = 9;
+    let mut a = reciprocal(last);
+    let mut k = last - 1;
     while 0 < k {
         a = arctan_term(w, k, a);
         k -= 1;
@@ -81,7 +105,7 @@ fn arctan(t: f64) -> f64
     ensures { λ r. ⌜ r ≡ arctanOf t ⌝ }
 {
     let u = halved(halved(t));
-    4.0 * (u * arctan_series(u * u))
+    4.0 * (u * arctan_series(u * u, turns(t, 10)))
 }
 
 // Close to the arctangent for y and x at least 0 and not both 0.

@@ -2,19 +2,16 @@
 -- Assumes nothing.
 use mathlib.Core.Path.{refl}
 use borrow.Author.Needs.{needs}
-use lib.Ieee.{binary64, div}
-use Rattle.float.specs.Float.{f64one}
-use Rattle.stand_ins.specs.StandIns.{arctanSeries, arctanTerm}
-use Rattle.float.specs.Constants.{f64p21}
+use Rattle.stand_ins.specs.StandIns.{arctanTerm}
 use Rattle.stand_ins.proofs.Laws.{Downward, again, ended}
 use Rattle.stand_ins.proofs.arctan_series.Statement.{statement}
 use Rattle.stand_ins.proofs.arctan_series.Tie as tie
 
 abbrev Inv-loop : tie.InvT-loop
-Inv-loop w a₀ k₀ a k = Downward (arctanTerm w) 9 (div binary64 f64one f64p21) k a
+Inv-loop w last a₀ k₀ a k = Downward (arctanTerm w) k₀ a₀ k a
 
 abbrev μ-loop : tie.MeasureT-loop
-μ-loop w a₀ k₀ a k = k
+μ-loop w last a₀ k₀ a k = k
 
 loop-holds : tie.Need-loop-holds Inv-loop μ-loop
 loop-holds c = record { most = search needs; same = refl }
@@ -23,11 +20,11 @@ loop-again : tie.Need-loop-again Inv-loop μ-loop
 loop-again c = again (c .before .loop-test .taken) (c .arctan-term .ensures) (c .before .before .loop .inv)
 
 returns : tie.Need-returns Inv-loop μ-loop
-unfolding arctanSeries
-returns c = rw (c .arctan-term2 .ensures, ended (c .before .loop-test .left) (c .before .before .loop .inv))
+returns c =
+    rw (c .arctan-term2 .ensures, ended (c .before .loop-test .left) (c .before .before .loop .inv), c .before .before .before .reciprocal .ensures)
 
 pub arctan-series-spec : {M : Type 1} → statement M
 arctan-series-spec =
     tie.close
-    (tie.spec Inv-loop μ-loop loop-holds (λ c κs. search needs) (λ c. search needs) (λ c. search needs) loop-again
-    (λ c κs. search needs) returns)
+    (tie.spec Inv-loop μ-loop (λ c κs. search needs) (λ c. search needs) loop-holds (λ c κs. search needs) (λ c. search needs)
+    (λ c. search needs) loop-again (λ c κs. search needs) returns)

@@ -1,15 +1,17 @@
 -- `stand_ins::cos` meets its contract: `Downward` holds at each turn of its loop.
 -- Assumes nothing.
-use mathlib.Core.Path.{refl}
+use mathlib.Core.Path.{refl, sym, subst}
 use borrow.Author.Needs.{needs}
-use Rattle.float.specs.Float.{f64one}
-use Rattle.stand_ins.specs.StandIns.{cosOf, cosineTerm}
-use Rattle.stand_ins.proofs.Laws.{Downward, again, ended}
+use lib.Dec.{T}
+use lib.Ieee.{eq}
+use Rattle.float.specs.Float.{f64zero, f64one}
+use Rattle.stand_ins.specs.StandIns.{cosineTerm}
+use Rattle.stand_ins.proofs.Laws.{Downward, again, ended, cosine-turns}
 use Rattle.stand_ins.proofs.cos.Statement.{statement}
 use Rattle.stand_ins.proofs.cos.Tie as tie
 
 abbrev Inv-loop : tie.InvT-loop
-Inv-loop x z c₀ k₀ c k = Downward (cosineTerm z) 15 f64one k c
+Inv-loop x z c₀ k₀ c k = Downward (cosineTerm z) k₀ f64one k c
 
 abbrev μ-loop : tie.MeasureT-loop
 μ-loop x z c₀ k₀ c k = k
@@ -21,11 +23,13 @@ loop-again : tie.Need-loop-again Inv-loop μ-loop
 loop-again c = again (c .before .loop-test .taken) (c .cosine-term .ensures) (c .before .before .loop .inv)
 
 returns : tie.Need-returns Inv-loop μ-loop
-unfolding cosOf
-returns c = ended (c .loop-test .left) (c .before .loop .inv)
+returns c =
+    let d = c .before .before in
+    rw (ended (c .loop-test .left) (c .before .loop .inv), d .turns .ensures .0)
+    (cosine-turns (eq (d .before .args .x) f64zero) (d .before .args .x) (subst T (sym (d .before .good .0 .1)) tt) (λ e. e))
 
 pub cos-spec : {M : Type 1} → statement M
 cos-spec =
     tie.close
-    (tie.spec Inv-loop μ-loop loop-holds (λ c κs. search needs) (λ c. search needs) (λ c. search needs) loop-again
-    returns)
+    (tie.spec Inv-loop μ-loop (λ c κs. search needs) loop-holds (λ c κs. search needs) (λ c. search needs) (λ c. search needs)
+    loop-again returns)
