@@ -79,13 +79,13 @@ fn arctan_term(w: f64, k: u32, a: f64) -> f64
     reciprocal(k) - w * a
 }
 
-// The arctangent's series in the square of the tangent, from its turn k on.
-fn arctan_series(w: f64, last: u32) -> f64
-    requires { ⌜ (0 < last) × (last ≤ 15) ⌝ }
-    ensures { λ r. ⌜ r ≡ arctanTerm w 0 (downward (arctanTerm w) (last - 1) (div binary64 f64one (f64of (2 * last + 1)))) ⌝ }
+// The arctangent's series in the square of the tangent, from k = top down to 0.
+fn arctan_series(w: f64, top: u32) -> f64
+    requires { ⌜ (0 < top) × (top ≤ 15) ⌝ }
+    ensures { λ r. ⌜ r ≡ arctanTerm w 0 (downward (arctanTerm w) (top - 1) (div binary64 f64one (f64of (2 * top + 1)))) ⌝ }
 {
-    let mut a = reciprocal(last);
-    let mut k = last - 1;
+    let mut a = reciprocal(top);
+    let mut k = top - 1;
     while 0 < k {
         a = arctan_term(w, k, a);
         k -= 1;

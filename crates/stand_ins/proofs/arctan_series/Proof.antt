@@ -8,10 +8,10 @@ use Rattle.stand_ins.proofs.arctan_series.Statement.{statement}
 use Rattle.stand_ins.proofs.arctan_series.Tie as tie
 
 abbrev Inv-loop : tie.InvT-loop
-Inv-loop w last a₀ k₀ a k = Downward (arctanTerm w) k₀ a₀ k a
+Inv-loop w top a₀ k₀ a k = Downward (arctanTerm w) k₀ a₀ k a
 
 abbrev μ-loop : tie.MeasureT-loop
-μ-loop w last a₀ k₀ a k = k
+μ-loop w top a₀ k₀ a k = k
 
 loop-holds : tie.Need-loop-holds Inv-loop μ-loop
 loop-holds c = record { most = search needs; same = refl }

@@ -1,12 +1,12 @@
 -- `stand_ins::sin` meets its contract: `Downward` holds at each turn of its loop.
 -- Assumes nothing.
-use mathlib.Core.Path.{refl, sym, subst}
+use mathlib.Core.Path.{refl}
 use borrow.Author.Needs.{needs}
-use lib.Dec.{T}
 use lib.Ieee.{eq}
 use Rattle.float.specs.Float.{f64zero, f64one}
 use Rattle.stand_ins.specs.StandIns.{sineTerm}
-use Rattle.stand_ins.proofs.Laws.{Downward, again, ended, sine-turns}
+use Rattle.stand_ins.proofs.Laws.{Downward, again, ended}
+use Rattle.stand_ins.proofs.Zeros.{sine-turns}
 use Rattle.stand_ins.proofs.sin.Statement.{statement}
 use Rattle.stand_ins.proofs.sin.Tie as tie
 
@@ -26,7 +26,7 @@ returns : tie.Need-returns Inv-loop μ-loop
 returns c =
     let d = c .before .before in
     rw (ended (c .loop-test .left) (c .before .loop .inv), d .turns .ensures .0)
-    (sine-turns (eq (d .before .args .x) f64zero) (d .before .args .x) (subst T (sym (d .before .good .0 .1)) tt) (λ e. e))
+    (sine-turns (eq (d .before .args .x) f64zero) (d .before .args .x) (d .before .good .0 .1) (λ e. e))
 
 pub sin-spec : {M : Type 1} → statement M
 sin-spec =
