@@ -1,9 +1,9 @@
 -- `stand_ins::turns` meets its contract.
 -- Assumes nothing.
+use mathlib.Core.Path.{refl}
+use borrow.Author.Needs.{needs}
 use Rattle.stand_ins.proofs.turns.Statement.{statement}
 use Rattle.stand_ins.proofs.turns.Tie as tie
-use borrow.Author.Needs.{needs}
-use mathlib.Core.Path.{refl}
 
 returns : tie.Need-returns
 returns c = (rw (c .if1 .taken) refl, search needs, search needs)
