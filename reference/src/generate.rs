@@ -256,29 +256,6 @@ impl Random {
         listed(&[&[digest], &row])
     }
 
-    pub fn points(&mut self) -> [f64; 4] {
-        let (lat, lon) = (self.latitude(), self.longitude());
-        match self.below(8) {
-            // Two points that are near, that are the same, and that lie opposite.
-            0 => [lat, lon, lat + self.between(-1e-3, 1e-3), lon + self.between(-1e-3, 1e-3)],
-            1 => [lat, lon, self.near(lat), self.near(lon)],
-            2 => [lat, lon, self.near(-lat), lon + 180.0],
-            3 => {
-                let away = self.of(&[180.0, 181.0]);
-                let away = self.either_sign(away);
-                let away = self.near(away);
-                [lat, lon, self.latitude(), lon + away]
-            }
-            // One place from both sides of a pole, where the haversine can round to below 0.
-            4 => {
-                let past = self.between(0.0, 1.0);
-                let (north, turn) = (self.either_sign(1.0), self.either_sign(180.0));
-                [north * (90.0 + past), lon, self.near(north * (90.0 - past)), lon + turn]
-            }
-            _ => [lat, lon, self.latitude(), self.longitude()],
-        }
-    }
-
     /// A radius, and what it is widened by.
     pub fn widening(&mut self) -> [f64; 2] {
         match self.below(8) {
@@ -297,33 +274,6 @@ impl Random {
             1 => self.limit().abs(),
             2 => self.short().abs(),
             _ => self.between(0.0, 21000.0),
-        }
-    }
-
-    /// For atan2: two legs of a triangle, and whatever else.
-    pub fn legs(&mut self) -> [f64; 2] {
-        match self.below(4) {
-            0 => [self.float(), self.float()],
-            1 => [self.number().abs(), self.number().abs()],
-            2 => {
-                let h = self.between(0.0, 1.0);
-                [h.sqrt(), (1.0 - h).sqrt()]
-            }
-            _ => {
-                let x = self.between(0.0, 2.0);
-                [self.near(x), x]
-            }
-        }
-    }
-
-    pub fn angle(&mut self) -> f64 {
-        match self.below(4) {
-            0 => self.float(),
-            1 => {
-                let quarters = self.below(9) as f64 - 4.0;
-                self.near(quarters * (PI / 4.0))
-            }
-            _ => self.between(-PI, PI),
         }
     }
 }
@@ -367,8 +317,15 @@ pub fn calls(seed: u64, index: u64, numbers: &[u64]) -> Vec<Vec<u64>> {
 }
 
 fn call_of(number: u64, random: &mut Random) -> Vec<u64> {
+    // By words of its own, so that every other call is what it was without them.
+    let zeros = Random(!random.0).zero_call(number);
     let mut words = vec![number];
-    words.extend(match number {
+    words.extend(zeros.unwrap_or_else(|| arguments(number, random)));
+    words
+}
+
+fn arguments(number: u64, random: &mut Random) -> Vec<u64> {
+    match number {
         0x01 => bits([if random.below(2) == 0 { random.square() } else { random.float() }]),
         0x02 => bits(random.addends()),
         0x03 | 0x04 => bits(random.remainder()),
@@ -393,6 +350,5 @@ fn call_of(number: u64, random: &mut Random) -> Vec<u64> {
         0x70 => random.kernel(),
         0x80 => random.circles(),
         _ => bits([random.float()]),
-    });
-    words
+    }
 }

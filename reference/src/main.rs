@@ -7,6 +7,7 @@ mod circle_calls;
 mod generate;
 mod generate_builds;
 mod generate_grids;
+mod generate_sphere;
 mod generate_tables;
 mod geodesy;
 mod grid;
@@ -22,6 +23,7 @@ mod table;
 mod table_calls;
 mod words;
 mod zero_signs;
+mod zeros;
 
 use std::collections::BTreeMap;
 use std::env;
@@ -38,6 +40,7 @@ fn main() -> ExitCode {
         ["zero-signs"] => Some(zero_signs()),
         ["lengths"] => Some(counted(lengths::count)),
         ["cells"] => Some(counted(cells::count)),
+        ["zeros"] => Some(counted(zeros::count)),
         ["generate", seed, from, count] => generate(seed, from, count, "all"),
         ["generate", seed, from, count, module] => generate(seed, from, count, module),
         _ => None,
@@ -50,7 +53,7 @@ fn main() -> ExitCode {
         }
         None => {
             eprintln!(
-                "usage: driver answer | sample | zero-signs | lengths | cells | generate SEED FROM COUNT [MODULE]"
+                "usage: driver answer | sample | zero-signs | lengths | cells | zeros | generate SEED FROM COUNT [MODULE]"
             );
             ExitCode::from(2)
         }

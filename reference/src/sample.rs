@@ -34,6 +34,7 @@ pub fn calls() -> Vec<Vec<u64>> {
     calls.extend(wrong_lengths());
     calls.extend(odd_cells());
     calls.extend(tallies());
+    calls.extend(series_at_zero());
     for (module, count, longest) in SEEDED {
         let numbers = numbers_of(module).unwrap_or_default();
         let all = (0..).map(|index| generate::calls(1, index, &numbers));
@@ -229,6 +230,32 @@ fn tallies() -> Vec<Vec<u64>> {
         of_lists(number, &lists[..if number == 0x51 { 6 } else { 5 }])
     };
     all.iter().flat_map(|tallies| [lists(tallies, 0x51), lists(tallies, 0x52)]).collect()
+}
+
+/// Document 02's C-15: series that begin at 0 of either sign, beside it, and at the ends of the range.
+fn series_at_zero() -> Vec<Vec<u64>> {
+    let underflows = 1e-162; // its square
+    let legs =
+        [0.0, -0.0, f64::from_bits(1), f64::MIN_POSITIVE, underflows, 1.0, f64::MAX, f64::INFINITY, f64::NAN];
+    let lats = [0.0, -0.0, f64::from_bits(1), underflows, 30.0];
+    let edges = [0.0, -0.0, f64::from_bits(1), underflows, 30.0, f64::INFINITY, f64::NAN];
+    let mut calls = Vec::new();
+    for x in [underflows, -underflows] {
+        calls.extend([0x20, 0x21].map(|number| vec![number, f64::to_bits(x)]));
+    }
+    for (y, x) in legs.iter().flat_map(|&y| legs.map(|x| (y, x))) {
+        calls.push([vec![0x22], bits([y, x])].concat());
+    }
+    for (from, to) in lats.iter().flat_map(|&from| lats.map(|to| (from, to))) {
+        for lon in [0.0, -0.0, underflows, 180.0] {
+            let number = if lon == 0.0 { 0x27 } else { 0x28 };
+            calls.push([vec![number], bits([from, 0.0, to, lon])].concat());
+        }
+    }
+    for (north, south) in edges.iter().flat_map(|&north| edges.map(|south| (north, south))) {
+        calls.push([vec![0x2e], bits([north, south, 360.0])].concat());
+    }
+    calls
 }
 
 fn pairs() -> Vec<Vec<u64>> {
