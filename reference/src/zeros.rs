@@ -1,5 +1,5 @@
-// How many calls of a list begin a series of sine, cosine or arctangent at 0, where the program takes one turn of it and
-// elsewhere all. An argument is worked out as the reference does, so that one that underflows is seen.
+// How many calls of a list begin a series of sine, cosine or arctangent at 0, where the program takes a few turns
+// of it and elsewhere all. An argument is worked out as the reference does, so that one that underflows is seen.
 use crate::calls;
 use crate::geodesy::LatBand;
 use crate::grid::Row;

@@ -1,4 +1,4 @@
--- How many turns are enough: at 0, of either sign, one gives what all give. Assumes nothing.
+-- How many turns are enough: at 0, of either sign, a few give what all give. Assumes nothing.
 use mathlib.Core.Path.{_≡_, refl, sym, subst}
 use mathlib.Core.Bool.{Bool, true, false, cond}
 use Prim.Native.Nat.{ℕ, _+_, _-_, _*_}
@@ -30,7 +30,7 @@ arctanBy n t =
     mul binary64 f64four (mul binary64 u (seriesBy n (mul binary64 u u)))
 
 -- at a zero, by computation
-sine-zero : (s : Bool) → sineBy 1 (signedZero s) ≡ sineBy 10 (signedZero s)
+sine-zero : (s : Bool) → sineBy 2 (signedZero s) ≡ sineBy 10 (signedZero s)
 unfolding sineTerm sub mul div ofInt ofBits
 sine-zero false = refl
 sine-zero true = refl
@@ -50,35 +50,35 @@ unfolding mul ofBits
 square-zero false = refl
 square-zero true = refl
 
-series-one : seriesBy 1 f64zero ≡ f64one
+series-few : seriesBy 2 f64zero ≡ f64one
 unfolding arctanTerm sub mul div ofInt ofBits
-series-one = refl
+series-few = refl
 
 series-all : seriesBy 10 f64zero ≡ f64one
 unfolding arctanTerm sub mul div ofInt ofBits
 series-all = refl
 
-arctan-zero : (s : Bool) → arctanBy 1 (signedZero s) ≡ arctanBy 10 (signedZero s)
-arctan-zero s = simp (halved-zero s, square-zero s, series-one, series-all)
+arctan-zero : (s : Bool) → arctanBy 2 (signedZero s) ≡ arctanBy 10 (signedZero s)
+arctan-zero s = simp (halved-zero s, square-zero s, series-few, series-all)
 
 -- .. and so wherever x equals 0; elsewhere all are taken
 module _ (b : Bool) (x : Float) (h : fits binary64 x ≡ true) (at-zero : b ≡ true → eq x f64zero ≡ true) where
-  enough : (F : ℕ → Float → Float) (all : ℕ) → ((s : Bool) → F 1 (signedZero s) ≡ F all (signedZero s)) → F (cond b 1 all) x ≡ F all x
+  enough : (F : ℕ → Float → Float) (few all : ℕ) → ((s : Bool) → F few (signedZero s) ≡ F all (signedZero s)) → F (cond b few all) x ≡ F all x
   unfolding ofBits
-  enough F all same = go b at-zero
+  enough F few all same = go b at-zero
     where
-      go : (b : Bool) → (b ≡ true → eq x (signedZero false) ≡ true) → F (cond b 1 all) x ≡ F all x
+      go : (b : Bool) → (b ≡ true → eq x (signedZero false) ≡ true) → F (cond b few all) x ≡ F all x
       go false z = refl
-      go true z = by-zeros (λ y. F 1 y ≡ F all y) same x (subst T (sym h) tt) (z refl)
+      go true z = by-zeros (λ y. F few y ≡ F all y) same x (subst T (sym h) tt) (z refl)
 
-  pub sine-turns : sineBy (cond b 1 10) x ≡ sinOf x
+  pub sine-turns : sineBy (cond b 2 10) x ≡ sinOf x
   unfolding sinOf
-  sine-turns = enough sineBy 10 sine-zero
+  sine-turns = enough sineBy 2 10 sine-zero
 
   pub cosine-turns : cosineBy (cond b 1 15) x ≡ cosOf x
   unfolding cosOf
-  cosine-turns = enough cosineBy 15 cosine-zero
+  cosine-turns = enough cosineBy 1 15 cosine-zero
 
-  pub arctan-turns : arctanBy (cond b 1 10) x ≡ arctanOf x
+  pub arctan-turns : arctanBy (cond b 2 10) x ≡ arctanOf x
   unfolding arctanOf arctanSeries ofInt ofBits
-  arctan-turns = enough arctanBy 10 arctan-zero
+  arctan-turns = enough arctanBy 2 10 arctan-zero

@@ -9,14 +9,14 @@ ghost use Rattle.stand_ins.specs.StandIns.{toRadians, toDegrees};
 
 pub const PI: f64 = 3.141592653589793;
 
-// How many turns a series takes: all, but at 0 one, which gives what all give. So the compiler does not know the number, and the
+// How many turns a series takes: all, but at 0 a few, which give what all give. So the compiler does not know the number, and the
 // program works each divisor out from k: docs/DECISIONS.md, 'Divisors from k'.
-fn turns(x: f64, all: u32) -> u32
-    requires { ⌜ 0 < all ⌝ }
-    ensures { λ r. ⌜ (r ≡ cond (eq x f64zero) 1 all) × (0 < r) × (r ≤ all) ⌝ }
+fn turns(x: f64, few: u32, all: u32) -> u32
+    requires { ⌜ (0 < few) × (few ≤ all) ⌝ }
+    ensures { λ r. ⌜ (r ≡ cond (eq x f64zero) few all) × (0 < r) × (r ≤ all) ⌝ }
 {
     if x == 0.0 {
-        return 1;
+        return few;
     }
     all
 }
@@ -34,7 +34,7 @@ pub fn sin(x: f64) -> f64
 {
     let z = x * x;
     let mut s = 1.0;
-    let mut k = turns(x, 10);
+    let mut k = turns(x, 2, 10);
     while 0 < k {
         s = sine_term(z, k, s);
         k -= 1;
@@ -55,7 +55,7 @@ pub fn cos(x: f64) -> f64
 {
     let z = x * x;
     let mut c = 1.0;
-    let mut k = turns(x, 15);
+    let mut k = turns(x, 1, 15);
     while 0 < k {
         c = cosine_term(z, k, c);
         k -= 1;
@@ -105,7 +105,7 @@ fn arctan(t: f64) -> f64
     ensures { λ r. ⌜ r ≡ arctanOf t ⌝ }
 {
     let u = halved(halved(t));
-    4.0 * (u * arctan_series(u * u, turns(t, 10)))
+    4.0 * (u * arctan_series(u * u, turns(t, 2, 10)))
 }
 
 // Close to the arctangent for y and x at least 0 and not both 0.
