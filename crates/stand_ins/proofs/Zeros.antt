@@ -61,7 +61,7 @@ series-all = refl
 arctan-zero : (s : Bool) → arctanBy 2 (signedZero s) ≡ arctanBy 10 (signedZero s)
 arctan-zero s = simp (halved-zero s, square-zero s, series-few, series-all)
 
--- .. and so wherever x equals 0; elsewhere all are taken
+-- .. and so wherever x equals 0. b says whether a few are taken, and they are at 0 alone
 module _ (b : Bool) (x : Float) (h : fits binary64 x ≡ true) (at-zero : b ≡ true → eq x f64zero ≡ true) where
   enough : (F : ℕ → Float → Float) (few all : ℕ) → ((s : Bool) → F few (signedZero s) ≡ F all (signedZero s)) → F (cond b few all) x ≡ F all x
   unfolding ofBits
