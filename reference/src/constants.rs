@@ -7,8 +7,8 @@ use std::collections::BTreeSet;
 use std::io::Write;
 use std::process::ExitCode;
 
-/// The numbers of a series. Not looked for are the arctangent's 1 at k = 0, the sine's 6 and the cosine's 2 at k = 1: any
-/// program has such numbers.
+/// The numbers of a series. Not looked for are the arctangent's 1 at k = 0, the sine's 6 and the cosine's 2 at k = 1: other
+/// code may well have them.
 struct Series {
     name: &'static str,
     first: u32,

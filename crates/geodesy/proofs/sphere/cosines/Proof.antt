@@ -1,48 +1,35 @@
--- `geodesy::sphere::cosines` meets its contract: `Downward` holds of both series at each turn of the loop.
+-- `geodesy::sphere::cosines` meets its contract: `Both` holds at each turn of its loop.
 -- Assumes nothing.
-use mathlib.Core.Path.{refl}
-use mathlib.Core.Bool.{_&&_}
 use borrow.Author.Needs.{needs}
-use lib.Ieee.{eq}
-use Rattle.refusal.proofs.Tests.{both}
-use Rattle.float.specs.Float.{f64zero, f64one}
-use Rattle.stand_ins.specs.StandIns.{cosineTerm}
-use Rattle.stand_ins.proofs.Laws.{Downward, again, ended}
+use Rattle.stand_ins.specs.StandIns.{cosOf, cosineTerm}
 use Rattle.stand_ins.proofs.Zeros.{cosine-turns}
+use Rattle.geodesy.proofs.Pairs.{Both, both-starts, both-again, both-ended}
 use Rattle.geodesy.proofs.sphere.cosines.Statement.{statement}
 use Rattle.geodesy.proofs.sphere.cosines.Tie as tie
 
 abbrev Inv-loop : tie.InvT-loop
-Inv-loop x y z w c₀ d₀ k₀ c d k = Downward (cosineTerm z) k₀ f64one k c × Downward (cosineTerm w) k₀ f64one k d
+Inv-loop x y z w c₀ d₀ k₀ c d k = Both cosineTerm z w k₀ k c d
 
 abbrev μ-loop : tie.MeasureT-loop
 μ-loop x y z w c₀ d₀ k₀ c d k = k
 
 loop-holds : tie.Need-loop-holds Inv-loop μ-loop
-loop-holds c = (record { most = search needs; same = refl }, record { most = search needs; same = refl })
+loop-holds c = both-starts cosineTerm _ _ _
 
 loop-again : tie.Need-loop-again Inv-loop μ-loop
 unfolding cosineTerm
 loop-again c =
     let d = c .before .before in
-    let more = d .before .loop-test .taken in
     let divided = d .cosine-divisor .ensures in
-    let inv = d .before .before .loop .inv in
-    (again more (rw divided at (c .before .turn .ensures)) (inv .0), again more (rw divided at (c .turn2 .ensures)) (inv .1))
+    both-again cosineTerm (d .before .loop-test .taken) (rw divided at (c .before .turn .ensures)) (rw divided at (c .turn2 .ensures))
+    (d .before .before .loop .inv)
 
 returns : tie.Need-returns Inv-loop μ-loop
 returns c =
     let d = c .before .before in
-    let x = d .before .args .x in
-    let y = d .before .args .y in
-    let p = eq x f64zero in
-    let q = eq y f64zero in
-    let none = c .loop-test .left in
-    let inv = c .before .loop .inv in
-    let good = d .before .good in (
-      rw (ended none (inv .0), d .pair-turns .ensures .0) (cosine-turns (p && q) x (good .0 .1) (λ h. both p q h .0)),
-      rw (ended none (inv .1), d .pair-turns .ensures .0) (cosine-turns (p && q) y (good .1 .0 .1) (λ h. both p q h .1)),
-    )
+    let e = d .before in
+    both-ended cosineTerm (λ x c. c) cosOf 1 15 cosine-turns (e .args .x) (e .args .y) (e .good .0 .1) (e .good .1 .0 .1)
+    (d .pair-turns .ensures .0) (c .loop-test .left) (c .before .loop .inv)
 
 pub cosines-spec : {M : Type 1} → statement M
 cosines-spec =
