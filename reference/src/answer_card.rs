@@ -1,10 +1,12 @@
-// A card read as document 01 says, and what `count` prints of it, by the copies of the reference's modules.
+// A card read as document 01 says, with document 02's C-17, and what `count` prints of it, by the copies of the reference's
+// modules.
 use crate::geodesy::{LatLon, RadiusError, RadiusKm};
 use crate::grid::{Col, Grid, Row};
 use crate::kernel::Kernel;
 use crate::refusals::{self, KernelFields, Refusal};
 use crate::table::{self, Buffers, Decimation};
 use std::fmt::Write as _;
+use std::ops::Range;
 
 pub struct Header {
     pub decimation: Decimation,
@@ -22,7 +24,42 @@ pub fn float(card: &[u8], at: usize) -> f64 {
     f64::from_le_bytes(card[at..at + 8].try_into().unwrap())
 }
 
-/// The checks of a card, in document 01's order.
+/// The byte ranges that a card's words give to header, rows and circles: any ranges, which the checks are to look at.
+pub struct Sections {
+    pub header: Range<u128>,
+    pub rows: Range<u128>,
+    pub circles: Range<u128>,
+}
+
+impl Sections {
+    pub fn of(card: &[u8]) -> Self {
+        let section = |at: usize, length: u128| {
+            let start = u128::from(word(card, at));
+            start..start + length
+        };
+        Self {
+            header: 0..64,
+            rows: section(48, 4 * u128::from(word(card, 0)) * u128::from(word(card, 4))),
+            circles: section(56, 16 * u128::from(word(card, 52))),
+        }
+    }
+
+    pub fn overlap(&self) -> bool {
+        let Self { header, rows, circles } = self;
+        overlap(header, rows) || overlap(header, circles) || overlap(rows, circles)
+    }
+}
+
+/// A byte of both is at or behind both starts and ahead of both ends.
+pub fn overlap(a: &Range<u128>, b: &Range<u128>) -> bool {
+    a.start.max(b.start) < a.end.min(b.end)
+}
+
+pub fn inside(card: &[u8], section: &Range<u128>) -> bool {
+    section.end <= card.len() as u128
+}
+
+/// The checks of a card, in their order.
 #[derive(Clone, Copy, PartialEq, Eq, PartialOrd, Ord)]
 pub enum Check {
     Length,
@@ -33,6 +70,7 @@ pub enum Check {
     Coarse,
     Table,
     Sections,
+    Overlap,
 }
 
 /// A card's refusal, and the check that it comes from.
@@ -58,14 +96,27 @@ impl Refused {
             (25, Check::Header) => "shorter than its header",
             (25, _) => "rows or circles past the card's end",
             (26, _) => "the word at 60 is not zero",
+            (32, _) => "header, rows and circles overlap",
             (_, Check::Length) => "longer than 65,536 bytes",
             _ => "(width + 1) × (height + 1) over 8,192",
         }
     }
+
+    /// The number, and the check where more than one has it.
+    pub fn label(self) -> String {
+        match self.check {
+            Check::Length => "27 (length)".to_string(),
+            Check::Header => "25 (header)".to_string(),
+            Check::Coarse => format!("{} (coarse)", self.number),
+            Check::Table => "27 (table)".to_string(),
+            Check::Sections => "25 (sections)".to_string(),
+            Check::Word | Check::Grid | Check::Factor | Check::Overlap => self.number.to_string(),
+        }
+    }
 }
 
-/// Document 01's order: 27 (length), 25 (header), 26, 1 to 9, 10 with the coarse grid's own 1 to 9, 27 (table),
-/// 25 (sections).
+/// The order of documents 01 and 02: 27 (length), 25 (header), 26, 1 to 9, 10 with the coarse grid's own 1 to 9, 27 (table),
+/// 25 (sections), 32.
 pub fn header(card: &[u8]) -> Result<Header, Refused> {
     if card.len() > 65536 {
         return Err(Refused { check: Check::Length, number: 27 });
@@ -91,8 +142,12 @@ pub fn header(card: &[u8]) -> Result<Header, Refused> {
     if (u64::from(source.width) + 1) * (u64::from(source.height) + 1) > 8192 {
         return Err(Refused { check: Check::Table, number: 27 });
     }
-    if !rows_inside(card) || !circles_inside(card) {
+    let sections = Sections::of(card);
+    if !inside(card, &sections.rows) || !inside(card, &sections.circles) {
         return Err(Refused { check: Check::Sections, number: 25 });
+    }
+    if sections.overlap() {
+        return Err(Refused { check: Check::Overlap, number: 32 });
     }
     Ok(Header {
         decimation,
@@ -101,18 +156,6 @@ pub fn header(card: &[u8]) -> Result<Header, Refused> {
         circles: word(card, 52) as usize,
         circles_at: word(card, 56) as usize,
     })
-}
-
-pub fn rows_inside(card: &[u8]) -> bool {
-    inside(card, word(card, 48), 4 * u128::from(word(card, 0)) * u128::from(word(card, 4)))
-}
-
-pub fn circles_inside(card: &[u8]) -> bool {
-    inside(card, word(card, 56), 16 * u128::from(word(card, 52)))
-}
-
-fn inside(card: &[u8], offset: u32, length: u128) -> bool {
-    u128::from(offset) + length <= card.len() as u128
 }
 
 /// A count that is whole in 0 to 2^53, or its bits.

@@ -6,6 +6,7 @@ mod answer_card;
 mod bench_calls;
 mod circle;
 mod generate_cards;
+mod generate_sections;
 mod generate_shares;
 mod geodesy;
 mod grid;

@@ -1,5 +1,6 @@
 // The readable text of a card, from which `make_card` makes the card again.
-use crate::answer_card::{circles_inside, float, header, rows_inside, word};
+use crate::answer_card::{float, header, inside, word, Sections};
+use crate::make_card::usual;
 use std::fmt::Write as _;
 
 /// Fields that the box refuses have a text too; a card whose header or sections are not there has none.
@@ -13,29 +14,30 @@ pub fn text(card: &[u8]) -> Result<String, String> {
     if word(card, 60) != 0 {
         return Err("no text: the word at 60 is not zero (refused 26)".to_string());
     }
-    for (name, inside) in [("rows", rows_inside(card)), ("circles", circles_inside(card))] {
-        if !inside {
+    let sections = Sections::of(card);
+    for (name, section) in [("rows", &sections.rows), ("circles", &sections.circles)] {
+        if !inside(card, section) {
             return Err(format!("no text: the {name} go past the card's end"));
         }
-    }
-    if 64 + 4 * u64::from(word(card, 0)) * u64::from(word(card, 4)) + 16 * u64::from(word(card, 52)) > 65536 {
-        return Err(
-            "no text: its sections overlap, and one behind the other they need over 65,536 bytes".to_string()
-        );
     }
     let mut text = format!("size {} {}\n", word(card, 0), word(card, 4));
     _ = writeln!(text, "origin {} {}", degrees(card, 8), degrees(card, 16));
     _ = writeln!(text, "steps {} {}", degrees(card, 24), degrees(card, 32));
     _ = writeln!(text, "nodata {}", cell(word(card, 40)));
     _ = writeln!(text, "factor {}", word(card, 44));
+    let at = [word(card, 48), word(card, 56)];
+    if at != usual((sections.rows.end - sections.rows.start) as usize) {
+        _ = writeln!(text, "at {} {}", at[0], at[1]);
+    }
     if let Err(refused) = header(card) {
         _ = writeln!(text, "refused {}", refused.number);
     }
-    sections(card, &mut text);
+    lines(card, &mut text);
     Ok(text)
 }
 
-fn sections(card: &[u8], text: &mut String) {
+/// Of the rows and the circles.
+fn lines(card: &[u8], text: &mut String) {
     let (width, mut at) = (word(card, 0) as usize, word(card, 48) as usize);
     let height = if width == 0 { 0 } else { word(card, 4) };
     for _ in 0..height {

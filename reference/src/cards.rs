@@ -8,6 +8,7 @@ mod card_text;
 mod circle;
 mod compare_cards;
 mod generate_cards;
+mod generate_sections;
 mod generate_shares;
 mod geodesy;
 mod grid;
@@ -17,6 +18,7 @@ mod progress;
 mod random;
 mod raster;
 mod refusals;
+mod section_counts;
 mod share_counts;
 mod shares;
 mod stand_ins;
@@ -92,11 +94,11 @@ fn made(text: &[u8]) -> Result<Made, String> {
     make_card::card(text).map_err(|mistake| format!("line {}: {}", mistake.line, mistake.what))
 }
 
-/// The text, which is tried: it gives the card back, or one with the same fields laid out as usual.
+/// The text, which is tried: it gives the card back, but for bytes in no section.
 fn written(card: &[u8]) -> Result<String, String> {
     let text = card_text::text(card)?;
     if made(text.as_bytes())?.card != card {
-        eprintln!("note: this card's sections are not laid out as usual; a card made from the text holds the same fields");
+        eprintln!("note: this card has bytes in no section; a card made from the text holds the same fields");
     }
     Ok(text)
 }

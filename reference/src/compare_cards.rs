@@ -1,7 +1,8 @@
 // Many generated cards through the Rust and through what is to print the same.
-use crate::answer_card::{answer, header, Check, Refused};
+use crate::answer_card::{answer, header, Refused};
 use crate::generate_cards::{card_and_shares, Kind};
 use crate::progress::Progress;
+use crate::section_counts::SectionCounts;
 use crate::share_counts::ShareCounts;
 use crate::{card_text, made, shares};
 use std::collections::BTreeMap;
@@ -20,11 +21,14 @@ struct Verdicts {
     unbounded: [u64; 2],
     /// Cards with a count that is infinite or no number.
     not_finite: u64,
+    sections: SectionCounts,
 }
 
 impl Verdicts {
     fn add(&mut self, card: &[u8], text: &str) {
-        if let Err(refused) = header(card) {
+        let refused = header(card).err();
+        self.sections.add(card, refused);
+        if let Some(refused) = refused {
             *self.refused.entry(refused).or_default() += 1;
             return;
         }
@@ -47,7 +51,7 @@ impl Verdicts {
 
     fn print(&self) {
         let mut cards: Vec<String> =
-            self.refused.iter().map(|(by, count)| format!("{} {count}", label(*by))).collect();
+            self.refused.iter().map(|(by, count)| format!("{} {count}", by.label())).collect();
         cards.push(format!("accepted {}", self.accepted));
         println!("cards: {}", cards.join(", "));
         let circles: Vec<String> =
@@ -58,18 +62,7 @@ impl Verdicts {
             "cards with unbounded cells: {unbounded}, of them with a total in decimal {decimal}; cards with a count that is not finite: {}",
             self.not_finite
         );
-    }
-}
-
-/// The number, and the check where more than one has it.
-fn label(by: Refused) -> String {
-    match by.check {
-        Check::Length => "27 (length)".to_string(),
-        Check::Header => "25 (header)".to_string(),
-        Check::Coarse => format!("{} (coarse)", by.number),
-        Check::Table => "27 (table)".to_string(),
-        Check::Sections => "25 (sections)".to_string(),
-        Check::Word | Check::Grid | Check::Factor => by.number.to_string(),
+        self.sections.print();
     }
 }
 
@@ -183,7 +176,7 @@ fn through_pipe(card: &[u8]) -> std::io::Result<Output> {
     child.wait_with_output()
 }
 
-/// To text and back: the same bytes where the sections are laid out as usual, and always a card that counts the same.
+/// To text and back: the same bytes but for those in no section, and always a card that counts the same.
 pub fn back(seed: u64, count: u64, kind: Kind) -> Result<(), String> {
     let (mut texts, mut same) = (0u64, 0u64);
     run(seed, count, kind, |card| {

@@ -1,6 +1,7 @@
 // Cards, good and damaged. Each depends on the seed and its own number alone.
+use crate::generate_sections;
 use crate::generate_shares::{self, Shares};
-use crate::make_card::laid_out;
+use crate::make_card::{laid_out, placed, usual};
 use crate::random::Random;
 
 impl Random {
@@ -57,8 +58,13 @@ pub struct Layout {
 
 impl Layout {
     pub fn card(&self, nodata: u32, cells: &[u32], circles: &[u8]) -> Vec<u8> {
+        self.card_at(nodata, cells, circles, usual(4 * cells.len()))
+    }
+
+    /// With its rows and circles at these offsets.
+    pub fn card_at(&self, nodata: u32, cells: &[u32], circles: &[u8], at: [u32; 2]) -> Vec<u8> {
         let rows: Vec<u8> = cells.iter().flat_map(|cell| cell.to_le_bytes()).collect();
-        laid_out(self.size, self.degrees, nodata, self.factor, &rows, circles)
+        placed(self.size, self.degrees, nodata, self.factor, &rows, circles, at)
     }
 }
 
@@ -81,11 +87,11 @@ pub fn layout(r: &mut Random) -> Layout {
     Layout { size: [width, height], degrees: [lat, lon, lon_step, lat_step], factor }
 }
 
-/// Up to eight circles, on the grid and one step off it.
-pub fn circles(r: &mut Random, layout: &Layout) -> Vec<u8> {
+/// So many circles, on the grid and one step off it.
+pub fn circles(r: &mut Random, layout: &Layout, count: u64) -> Vec<u8> {
     let [width, height] = layout.size;
     let mut circles = Vec::new();
-    for _ in 0..r.below(9) {
+    for _ in 0..count {
         let place = |r: &mut Random, n: u32| {
             let past = u64::from(r.one_in(9));
             r.below(u64::from(n / layout.factor) + past) as u32
@@ -98,14 +104,20 @@ pub fn circles(r: &mut Random, layout: &Layout) -> Vec<u8> {
     circles
 }
 
+/// The cells of a card, of one of six kinds.
+pub fn cells(r: &mut Random, layout: &Layout, nodata: u32) -> Vec<u32> {
+    let kind = r.below(6);
+    let [width, height] = layout.size;
+    (0..width * height).map(|_| cell(r, nodata, kind)).collect()
+}
+
 /// A card that most of the checks pass.
 fn good(r: &mut Random) -> Vec<u8> {
     let layout = layout(r);
     let nodata = r.of(&NODATA);
-    let kind = r.below(6);
-    let [width, height] = layout.size;
-    let cells: Vec<u32> = (0..width * height).map(|_| cell(r, nodata, kind)).collect();
-    let circles = circles(r, &layout);
+    let cells = cells(r, &layout, nodata);
+    let count = r.below(9);
+    let circles = circles(r, &layout, count);
     layout.card(nodata, &cells, &circles)
 }
 
@@ -117,14 +129,14 @@ const FLOATS: [f64; 20] = [
     -180.00000000000003, 360.0, 1e-9, -1e-9, 5e-324, f64::MAX, f64::NAN, f64::INFINITY, f64::NEG_INFINITY,
 ];
 
-fn put(card: &mut [u8], at: usize, bytes: &[u8]) {
+pub fn put(card: &mut [u8], at: usize, bytes: &[u8]) {
     if let Some(place) = card.get_mut(at..at + bytes.len()) {
         place.copy_from_slice(bytes);
     }
 }
 
 /// One damage: a field at a limit, a length, a byte, or sections that overlap or stand at the end.
-fn damage(r: &mut Random, card: &mut Vec<u8>) {
+pub fn damage(r: &mut Random, card: &mut Vec<u8>) {
     let length = card.len() as u32;
     match r.below(8) {
         0 => put(card, r.of(&[0, 4, 40, 44, 48, 52, 56, 60]), &r.of(&WORDS).to_le_bytes()),
@@ -256,6 +268,8 @@ pub enum Kind {
     Mixed,
     /// Cells that are shares of a person.
     Shares,
+    /// Sections that touch, overlap, contain each other, or lie over the header.
+    Sections,
 }
 
 impl Kind {
@@ -267,6 +281,7 @@ impl Kind {
             "worst" => Some(Self::Worst),
             "mixed" => Some(Self::Mixed),
             "shares" => Some(Self::Shares),
+            "sections" => Some(Self::Sections),
             _ => None,
         }
     }
@@ -284,6 +299,7 @@ pub fn card_and_shares(seed: u64, number: u64, kind: Kind) -> (Vec<u8>, Option<S
         Kind::Good => good(&mut r),
         Kind::Random => random(&mut r),
         Kind::Worst => worst(&mut r),
+        Kind::Sections => generate_sections::card(&mut r),
         Kind::Damaged | Kind::Mixed => {
             let mut card = good(&mut r);
             let damages = if matches!(kind, Kind::Damaged) { 1 + r.below(3) } else { r.below(3) };

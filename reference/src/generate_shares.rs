@@ -126,6 +126,7 @@ pub fn card(r: &mut Random) -> (Vec<u8>, Shares) {
     let mut cells: Vec<u32> = parts.iter().map(|&units| shares.cell(units)).collect();
     cells.extend((0..dropped).map(|_| not_kept(r, mark)));
     shuffle(r, &mut cells);
-    let circles = circles(r, &layout);
+    let count = r.below(9);
+    let circles = circles(r, &layout, count);
     (layout.card(mark, &cells, &circles), shares)
 }

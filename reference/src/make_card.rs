@@ -38,12 +38,13 @@ impl Made {
 }
 
 /// The words of a line, and what they take.
-const FORMS: [(&str, &str); 8] = [
+const FORMS: [(&str, &str); 9] = [
     ("size", "a width and a height"),
     ("origin", "a latitude and a longitude"),
     ("steps", "lon_step and lat_step"),
     ("nodata", "one number"),
     ("factor", "one whole number"),
+    ("at", "the offsets of rows and circles"),
     ("row", "a number for each column"),
     ("circle", "a row, a column and a radius in km"),
     ("refused", "the number of the refusal that is meant"),
@@ -60,6 +61,7 @@ struct Fields {
     steps: Once<[f64; 2]>,
     nodata: Once<u32>,
     factor: Once<u32>,
+    at: Once<[u32; 2]>,
     refused: Once<u64>,
     row_count: u32,
     rows: Vec<u8>,
@@ -91,6 +93,7 @@ impl Fields {
             ("steps", [lon, lat]) => once(&mut self.steps, line, [float(lon)?, float(lat)?]),
             ("nodata", [mark]) => once(&mut self.nodata, line, cell(mark)?),
             ("factor", [factor]) => once(&mut self.factor, line, whole(factor)?),
+            ("at", [rows, circles]) => once(&mut self.at, line, [offset(rows)?, offset(circles)?]),
             ("refused", [number]) => once(&mut self.refused, line, u64::from(whole(number)?)),
             ("row", cells) => self.row(cells),
             ("circle", [row, col, km]) => {
@@ -124,7 +127,7 @@ impl Fields {
         Ok(())
     }
 
-    /// Header, rows at 64, circles behind them.
+    /// The sections stand as usual where no line says at which offsets.
     fn laid_out(&self) -> Result<Vec<u8>, String> {
         let missing = |name: &str| format!("the text ends, and there is no line `{name}`");
         let (_, [width, height]) = self.size.ok_or_else(|| missing("size"))?;
@@ -137,7 +140,8 @@ impl Fields {
             return Err(format!("the text ends, and {} of {height} rows are there", self.row_count));
         }
         let degrees = [lat, lon, lon_step, lat_step];
-        Ok(laid_out([width, height], degrees, nodata, factor, &self.rows, &self.circles))
+        let at = self.at.map_or(usual(self.rows.len()), |(_, at)| at);
+        Ok(placed([width, height], degrees, nodata, factor, &self.rows, &self.circles, at))
     }
 
     /// A card that the box refuses is a mistake, unless a line `refused` has the number.
@@ -163,6 +167,7 @@ impl Fields {
             (Check::Grid, 3 | 4) => self.origin.map(|(line, _)| line),
             (Check::Grid, _) => self.steps.map(|(line, _)| line),
             (Check::Factor | Check::Coarse, _) => self.factor.map(|(line, _)| line),
+            (Check::Overlap, _) => self.at.map(|(line, _)| line),
             _ => None,
         };
         line.unwrap_or(self.line)
@@ -181,6 +186,16 @@ fn once<T>(field: &mut Once<T>, line: usize, value: T) -> Result<(), String> {
 
 fn whole(word: &str) -> Result<u32, String> {
     word.parse().map_err(|_| format!("{word} is no whole number from 0 to 4294967295"))
+}
+
+/// A place in a card, or its end.
+fn offset(word: &str) -> Result<u32, String> {
+    let offset = whole(word)?;
+    if offset <= 65536 {
+        Ok(offset)
+    } else {
+        Err(format!("{word} is past 65,536, where the longest card ends"))
+    }
 }
 
 /// The bits of an f32: a number, or `bits:` and 8 hexadecimal digits.
@@ -225,7 +240,12 @@ fn held(word: &str, x: f64, bits: &str) -> Result<(), String> {
     }
 }
 
-/// Header, rows at 64, circles behind them.
+/// Offsets of rows and circles: the rows, of so many bytes, at 64 and the circles behind them.
+pub fn usual(rows: usize) -> [u32; 2] {
+    [64, 64 + rows as u32]
+}
+
+/// Header, rows and circles at their usual places.
 pub fn laid_out(
     size: [u32; 2],
     degrees: [f64; 4],
@@ -234,12 +254,30 @@ pub fn laid_out(
     rows: &[u8],
     circles: &[u8],
 ) -> Vec<u8> {
+    placed(size, degrees, nodata, factor, rows, circles, usual(rows.len()))
+}
+
+/// The sections at these offsets, with zeros between. Where they overlap, the circles stand over the rows and the header over
+/// both.
+pub fn placed(
+    size: [u32; 2],
+    degrees: [f64; 4],
+    nodata: u32,
+    factor: u32,
+    rows: &[u8],
+    circles: &[u8],
+    at: [u32; 2],
+) -> Vec<u8> {
+    let mut header = Vec::new();
+    header.extend(size.iter().flat_map(|n| n.to_le_bytes()));
+    header.extend(degrees.iter().flat_map(|x| x.to_le_bytes()));
+    let words = [nodata, factor, at[0], circles.len() as u32 / 16, at[1], 0];
+    header.extend(words.iter().flat_map(|n| n.to_le_bytes()));
     let mut card = Vec::new();
-    card.extend(size.iter().flat_map(|n| n.to_le_bytes()));
-    card.extend(degrees.iter().flat_map(|x| x.to_le_bytes()));
-    let words = [nodata, factor, 64, circles.len() as u32 / 16, 64 + rows.len() as u32, 0];
-    card.extend(words.iter().flat_map(|n| n.to_le_bytes()));
-    card.extend(rows);
-    card.extend(circles);
+    for (at, section) in [(at[0], rows), (at[1], circles), (0, &header)] {
+        let (start, end) = (at as usize, at as usize + section.len());
+        card.resize(card.len().max(end), 0);
+        card[start..end].copy_from_slice(section);
+    }
     card
 }

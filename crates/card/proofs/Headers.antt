@@ -1,16 +1,15 @@
 -- What the header's checks give. Assumes nothing.
 use mathlib.Core.Path.{_≡_, subst, _∙_, ap}
-use mathlib.Core.Bool.{false, cond, not}
+use mathlib.Core.Bool.{cond, not}
 use mathlib.Core.List.{List}
-use Prim.Native.Nat.{ℕ, _+_, _*_, _<_, _≤_, _^_}
+use Prim.Native.Nat.{ℕ, _≤_}
 use native.Mathlib.Nat.{mul-le-mul}
-use native.Mathlib.Omega.{arith}
-use borrow.Author.Tests.{ltb-false, leb-true, lt-leb, not-false}
-use lib.Dec.{ltb, leb, eqb}
+use borrow.Author.Tests.{ltb-false, leb-true, not-false}
+use lib.Dec.{ltb, eqb}
 use lib.Ieee.{binary64}
 use lib.Ieee.Bits.{ofBits-fits}
 use lib.ListN.{length}
-use Rattle.refusal.specs.Refusal.{Outcome, answered, first, passed, outcome, andThen, cardEndsEarly, cardTooLarge}
+use Rattle.refusal.specs.Refusal.{Outcome, answered, first, passed, outcome, andThen, cardEndsEarly, cardTooLarge, sectionsOverlap}
 use Rattle.refusal.proofs.Chains.{first-passed, answered-passed, went-past, went-on}
 use Rattle.refusal.proofs.Tests.{both}
 use Rattle.grid.specs.declared.Grid.{Grid}
@@ -18,22 +17,12 @@ use Rattle.grid.specs.Grid.{gridNew}
 use Rattle.grid.proofs.Wrapped.{made-valid}
 use Rattle.decimation.specs.declared.Decimation.{Decimation}
 use Rattle.decimation.specs.Decimation.{decimationOf, decimationNew, factorRefusal}
-use Rattle.decimation.proofs.Factors.{decimation-made}
+use Rattle.decimation.proofs.Factors.{decimation-made, framed}
 use Rattle.card.specs.declared.Header.{Header}
 use Rattle.card.specs.Words.{u32At, u64At}
-use Rattle.card.specs.Card.{gridAt, headerAt, inside, sectionsInside, tableTooLarge, withHeader, withGrid, readHeader}
-use Rattle.card.specs.private.Accepted.{Accepted}
-
--- ---- sizes
-
-pub product-fits : (w h : ℕ) → w < 2 ^ 32 → h < 2 ^ 32 → w * h < 2 ^ 64
-product-fits w h p q =
-    let a : w ≤ 4294967295 = omega arith in
-    let b : h ≤ 4294967295 = omega arith in
-    omega (arith, mul-le-mul a b)
-
-pub too-many : (len at n : ℕ) → len ≤ 65536 → 65536 < n → leb (at + 4 * n) len ≡ false
-too-many len at n p q = lt-leb (at + 4 * n) len (omega arith)
+use Rattle.card.specs.Card.{gridAt, headerAt, rowBytes, circleBytes, inside, sectionsApart, sectionRefusal}
+use Rattle.card.specs.Card.{tableTooLarge, withHeader, withGrid, readHeader}
+use Rattle.card.specs.private.Accepted.{FewCells, Accepted}
 
 -- ---- an accepted header
 
@@ -51,24 +40,32 @@ decimation-read card g d x o e f p =
     let own : d .source ≡ g = ap (λ (y : Decimation). y .source) (decimation-made g (u32At card 44) d e .is) in
     rw e (subst (λ (s : Grid). o ≡ withHeader card s (headerAt card d)) own (subst (λ (y : Header). o ≡ withHeader card (y .decimation .source) y) f p))
 
+-- a grid that passed has too few cells for a byte's offset to wrap
+pub few-cells : (card : List ℕ) (g : Grid) (d : Decimation) (x : Header) → decimationNew g (u32At card 44) ≡ answered d → x ≡ headerAt card d
+    → FewCells (x .decimation .source)
+unfolding headerAt
+few-cells card g d x e f = let s = framed d (decimation-made g (u32At card 44) d e .valid) in rw f (mul-le-mul (s .columns) (s .lines))
+
 -- what an accepted header gives
 header-accepted : (card : List ℕ) (g : Grid) (d : Decimation) (h : Header) → length card ≤ 65536 → decimationNew g (u32At card 44) ≡ answered d
     → withHeader card g (headerAt card d) ≡ answered h → Accepted card h
 unfolding headerAt
 header-accepted card g d h whole made e =
     let x = headerAt card d in
-    let p = answered-passed (first (tableTooLarge g) cardTooLarge (first (not (sectionsInside card x)) cardEndsEarly passed)) x h e in
-    let q = first-passed (tableTooLarge g) cardTooLarge (first (not (sectionsInside card x)) cardEndsEarly passed) tt (p .0) in
-    let r = first-passed (not (sectionsInside card x)) cardEndsEarly passed tt (q .1) in
+    let rows = rowBytes x in
+    let circles = circleBytes x in
+    let p = answered-passed (first (tableTooLarge g) cardTooLarge (sectionRefusal card rows circles)) x h e in
+    let q = first-passed (tableTooLarge g) cardTooLarge (sectionRefusal card rows circles) tt (p .0) in
+    let r = first-passed _ cardEndsEarly (first (not (sectionsApart rows circles)) sectionsOverlap passed) tt (q .1) in
     let from = decimation-made g (u32At card 44) d made .is in
-    let rows = inside card (x .«rows_at») (4 * (d .source .width * d .source .height)) in
-    let s = both rows (inside card (x .«circles_at») (16 * x .circles)) (not-false _ (r .0)) in
+    let s = both (inside card rows) (inside card circles) (not-false _ (r .0)) in
     subst (λ (y : Header). Accepted card y) (p .1)
     record {
       whole = whole;
       small = rw from (ltb-false _ _ (q .0));
       rows = leb-true _ _ (s .0);
       circles = leb-true _ _ (s .1);
+      apart = not-false _ (first-passed (not (sectionsApart rows circles)) sectionsOverlap passed tt (r .1) .0);
       made = ap (λ (y : Decimation). decimationNew (y .source) (y .factor)) from ∙ made;
     }
 

@@ -1,4 +1,6 @@
 -- Laws that belong to no one function.
 mod Bytes
+mod Examples
 pub mod Headers
 pub mod Rows
+pub mod Sections

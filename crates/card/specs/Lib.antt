@@ -1,4 +1,5 @@
 -- The definitions that the contracts of `card` cite.
 pub mod Words
 pub mod Card
+pub mod Bytes
 pub mod private

@@ -1,9 +1,10 @@
 // The card's header and its checks, in their order.
 ghost use mathlib.Core.Path.{_≡_};
-ghost use Prim.Native.Nat.{_+_, _<_, _≤_};
-ghost use lib.ListN.{length};
 ghost use Rattle.grid.specs.Grid.{gridOutcome, gridNew};
-ghost use Rattle.card.specs.Card.{gridAt, headerAt, inside, sectionsInside, tableTooLarge, headerOutcome, withHeader, withGrid, readHeader};
+ghost use Rattle.card.specs.Card.{gridAt, headerAt, rowBytes, circleBytes, inside, disjoint, sectionsApart, sectionRefusal};
+ghost use Rattle.card.specs.Card.{tableTooLarge, headerOutcome, withHeader, withGrid, readHeader};
+ghost use Rattle.card.specs.private.Accepted.{FewCells};
+use crate::ByteRange;
 use crate::Header;
 use crate::HeaderAnswer;
 use crate::words::f64_at;
@@ -55,38 +56,76 @@ fn is_table_too_large(g: Grid) -> bool
     MOST_TABLE_CELLS < Table::padded_len(g)
 }
 
-// A section may end at the card's end.
-fn is_inside(card: &[u8], offset: u32, len: u64) -> bool
-    requires { ⌜ len < 2305843009213693952 ⌝ }
-    ensures { λ r. ⌜ r ≡ inside (now (card .entry)) offset len ⌝ }
-{
-    (offset as u64) + len <= card.len() as u64
-}
-
-fn has_sections_inside(card: &[u8], h: Header) -> bool
-    requires { ⌜ length (now card) ≤ 65536 ⌝ }
-    ensures { λ r. ⌜ r ≡ sectionsInside (now (card .entry)) h ⌝ }
+fn rows_of(h: Header) -> ByteRange
+    requires { ⌜ FewCells (h .decimation .source) ⌝ }
+    ensures { λ r. ⌜ r ≡ rowBytes h ⌝ }
 {
     let d = h.decimation;
     let source = d.source;
+    let start = h.rows_at as u64;
     let cells = (source.width as u64) * (source.height as u64);
-    if cells > MOST_BYTES as u64 {
-        return false;
+    ByteRange {
+        start,
+        end: start + 4 * cells,
     }
-    let rows = is_inside(card, h.rows_at, 4 * cells);
-    let circles = is_inside(card, h.circles_at, 16 * (h.circles as u64));
-    rows & circles
 }
 
-// 27 (table), 25 (sections).
+fn circles_of(h: Header) -> ByteRange
+    ensures { λ r. ⌜ r ≡ circleBytes h ⌝ }
+{
+    let start = h.circles_at as u64;
+    ByteRange {
+        start,
+        end: start + 16 * (h.circles as u64),
+    }
+}
+
+// A section may end at the card's end.
+fn is_inside(card: &[u8], section: ByteRange) -> bool
+    ensures { λ r. ⌜ r ≡ inside (now (card .entry)) section ⌝ }
+{
+    section.end <= card.len() as u64
+}
+
+// Ranges that touch are disjoint, and an empty one overlaps nothing.
+fn are_disjoint(a: ByteRange, b: ByteRange) -> bool
+    ensures { λ r. ⌜ r ≡ disjoint a b ⌝ }
+{
+    (a.end <= a.start) | (b.end <= b.start) | (a.end <= b.start) | (b.end <= a.start)
+}
+
+fn are_apart(rows: ByteRange, circles: ByteRange) -> bool
+    ensures { λ r. ⌜ r ≡ sectionsApart rows circles ⌝ }
+{
+    let header = ByteRange { start: 0, end: 64 };
+    let above_rows = are_disjoint(header, rows);
+    let above_circles = are_disjoint(header, circles);
+    let between = are_disjoint(rows, circles);
+    above_rows & above_circles & between
+}
+
+// 25 (sections), 32.
+fn section_refusal(card: &[u8], rows: ByteRange, circles: ByteRange) -> u32
+    ensures { λ n. ⌜ n ≡ sectionRefusal (now (card .entry)) rows circles ⌝ }
+{
+    let rows_end = is_inside(card, rows);
+    let circles_end = is_inside(card, circles);
+    let ends = !(rows_end & circles_end);
+    let overlap = !are_apart(rows, circles);
+    let overlapping = first(overlap, refusal::SECTIONS_OVERLAP, refusal::PASSED);
+    first(ends, refusal::CARD_ENDS_EARLY, overlapping)
+}
+
+// 27 (table), then those.
 fn with_header(card: &[u8], h: Header) -> HeaderAnswer
-    requires { ⌜ length (now card) ≤ 65536 ⌝ }
+    requires { ⌜ FewCells (h .decimation .source) ⌝ }
     ensures { λ r. ⌜ headerOutcome r ≡ withHeader (now (card .entry)) (h .decimation .source) h ⌝ }
 {
     let d = h.decimation;
     let large = is_table_too_large(d.source);
-    let ends = !has_sections_inside(card, h);
-    let sections = first(ends, refusal::CARD_ENDS_EARLY, refusal::PASSED);
+    let rows = rows_of(h);
+    let circles = circles_of(h);
+    let sections = section_refusal(card, rows, circles);
     let n = first(large, refusal::CARD_TOO_LARGE, sections);
     if n != refusal::PASSED {
         return HeaderAnswer::Refused(n);
@@ -96,7 +135,6 @@ fn with_header(card: &[u8], h: Header) -> HeaderAnswer
 
 // 10 with the coarse grid's own 1 to 9, then the rest.
 fn with_grid(card: &[u8], g: Grid) -> HeaderAnswer
-    requires { ⌜ length (now card) ≤ 65536 ⌝ }
     ensures { λ r. ⌜ headerOutcome r ≡ withGrid (now (card .entry)) g ⌝ }
 {
     let made = Decimation::new(g, u32_at(card, 44));

@@ -1,7 +1,7 @@
 -- The numbers that the display can show. Assumes nothing.
 use Prim.Native.Nat.{ℕ, _≤_, _<_}
 use mathlib.Core.Path.{_≡_}
-use mathlib.Core.Bool.{not}
+use mathlib.Core.Bool.{not, _&&_}
 use mathlib.Core.List.{List}
 use native.Mathlib.Omega.{arith}
 use borrow.Author.Tests.{le-leb}
@@ -9,7 +9,8 @@ use lib.Dec.{T, eqb, ltb, leb}
 use lib.ListN.{length}
 use lib.Ieee.{lt}
 use lib.Ieee.Scale.{finite}
-use Rattle.refusal.specs.Refusal.{Outcome, answered, refused, RefusedOnly, first, passed, cardTooLarge, cardEndsEarly, cardWordNotZero}
+use Rattle.refusal.specs.Refusal.{Outcome, answered, refused, RefusedOnly, first, passed}
+use Rattle.refusal.specs.Refusal.{cardTooLarge, cardEndsEarly, cardWordNotZero, sectionsOverlap}
 use Rattle.refusal.specs.Refusal.{radiusNotFinite, radiusBelowZero, rowOffGrid, columnsDontClose, columnOffGrid}
 use Rattle.refusal.proofs.Chains.{first-only, outcome-only, past-only, then-only}
 use Rattle.float.specs.Float.{f64zero}
@@ -22,7 +23,8 @@ use Rattle.decimation.proofs.Factors.{factor-numbers}
 use Rattle.card.specs.declared.Header.{Header}
 use Rattle.card.specs.declared.CardCircle.{CardCircle}
 use Rattle.card.specs.Words.{u32At}
-use Rattle.card.specs.Card.{gridAt, headerAt, sectionsInside, tableTooLarge, withHeader, withGrid, readHeader, circleAt}
+use Rattle.card.specs.Card.{gridAt, headerAt, rowBytes, circleBytes, inside, sectionsApart, sectionRefusal, tableTooLarge}
+use Rattle.card.specs.Card.{withHeader, withGrid, readHeader, circleAt}
 use Rattle.card.proofs.Headers.{never-22}
 use Rattle.report.specs.Printed.{circleChecks}
 use Rattle.display.specs.Display.{ofCard, ofCircle, NumbersShown}
@@ -47,10 +49,13 @@ module _ (card : List ℕ) where
   with-header : (g : Grid) (h : Header) → RefusedOnly OfCard (withHeader card g h)
   with-header g h =
       let P : ℕ → Type 0 = λ n. 0 < n → OfCard n in
-      let sections = first (not (sectionsInside card h)) cardEndsEarly passed in
-      outcome-only OfCard (first (tableTooLarge g) cardTooLarge sections) h
-      (first-only P (tableTooLarge g) cardTooLarge sections (λ _. tt)
-      (first-only P (not (sectionsInside card h)) cardEndsEarly passed (λ _. tt) (λ q. absurd (omega (arith, q)))))
+      let rows = rowBytes h in
+      let circles = circleBytes h in
+      let overlap = first (not (sectionsApart rows circles)) sectionsOverlap passed in
+      outcome-only OfCard (first (tableTooLarge g) cardTooLarge (sectionRefusal card rows circles)) h
+      (first-only P (tableTooLarge g) cardTooLarge (sectionRefusal card rows circles) (λ _. tt)
+      (first-only P (not (inside card rows && inside card circles)) cardEndsEarly overlap (λ _. tt)
+      (first-only P (not (sectionsApart rows circles)) sectionsOverlap passed (λ _. tt) (λ q. absurd (omega (arith, q))))))
 
   with-grid : (g : Grid) → gridNew (gridAt card) ≡ answered g → RefusedOnly OfCard (withGrid card g)
   with-grid g e =

@@ -71,9 +71,9 @@ displayed s card h =
 
 -- ---- the numbers that a card's text can have, as docs/DISPLAY.md lists them
 
--- of a card: 1 to 10, 25 to 27
+-- of a card: 1 to 10, 25 to 27, and 32 (document 02, C-17)
 abbrev pub ofCard : ℕ → Bool
-ofCard n = (leb 1 n && leb n 10) || (leb 25 n && leb n 27)
+ofCard n = (leb 1 n && leb n 10) || (leb 25 n && leb n 27) || eqb n 32
 
 -- of a circle: 15 to 19; at 0 it is counted
 abbrev pub ofCircle : ℕ → Bool

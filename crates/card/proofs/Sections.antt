@@ -1,0 +1,153 @@
+-- Document 02, C-17: header, rows and circles of an accepted card share no byte, and each is read from its own bytes alone. Assumes nothing.
+use mathlib.Core.Path.{_≡_, refl, sym, subst, _∙_}
+use mathlib.Core.Bool.{Bool, true, false, false≢true}
+use mathlib.Core.List.{List}
+use Prim.Native.Nat.{ℕ, zero, suc, _+_, _*_, _≤_, _<_}
+use native.Mathlib.Nat.{le-refl, mul-comm, mul-le-mul-right, suc-mul}
+use native.Mathlib.Omega.{arith}
+use borrow.Author.Tests.{leb-true, leb-false, lt-leb}
+use lib.Dec.{leb, lit≤, lit<}
+use lib.ListN.{length, getD, set, length-set}
+use lib.Seq.{getD-set-other}
+use Rattle.refusal.specs.Refusal.{answered, andThen}
+use Rattle.refusal.proofs.Tests.{both, neither}
+use Rattle.grid.specs.declared.Grid.{Grid}
+use Rattle.grid.specs.Grid.{gridNew}
+use Rattle.decimation.specs.declared.Decimation.{Decimation}
+use Rattle.decimation.specs.Decimation.{decimationNew}
+use Rattle.card.specs.declared.Header.{Header}
+use Rattle.card.specs.declared.ByteRange.{ByteRange}
+use Rattle.card.specs.Words.{u32At, u64At, wordsAt}
+use Rattle.card.specs.Bytes.{In, SameIn, SameOutside}
+use Rattle.card.specs.Card.{gridAt, headerAt, headerBytes, rowBytes, circleBytes, hasNoBytes, disjoint}
+use Rattle.card.specs.Card.{withHeader, withGrid, readHeader, rowAt, circleAt}
+use Rattle.card.proofs.Bytes.{u32-bytes, u64-words}
+use Rattle.card.proofs.Headers.{accepted}
+
+-- ---- disjoint, both ways: ranges that share a byte are not disjoint, and ranges that are not disjoint share one
+
+module _ (a b : ByteRange) where
+  pub shared-overlap : (i : ℕ) → In a i → In b i → disjoint a b ≡ false
+  shared-overlap i p q =
+      rw (
+        lt-leb (a .end) (a .start) (omega (arith, p)),
+        lt-leb (b .end) (b .start) (omega (arith, q)),
+        lt-leb (a .end) (b .start) (omega (arith, p, q)),
+        lt-leb (b .end) (a .start) (omega (arith, p, q)),
+      )
+
+  pub overlap-shared : disjoint a b ≡ false → (i : ℕ) × In a i × In b i
+  overlap-shared e =
+      let p = neither _ (leb (b .end) (a .start)) e in
+      let q = neither _ (leb (a .end) (b .start)) (p .0) in
+      let r = neither (hasNoBytes a) (hasNoBytes b) (q .0) in
+      later (leb (a .start) (b .start)) refl (leb-false _ _ (r .0)) (leb-false _ _ (r .1)) (leb-false _ _ (q .1)) (leb-false _ _ (p .1))
+    where
+      -- the later start
+      later : (t : Bool) → leb (a .start) (b .start) ≡ t → a .start < a .end → b .start < b .end → b .start < a .end → a .start < b .end
+          → (i : ℕ) × In a i × In b i
+      later true l p q r s = (b .start, (leb-true _ _ l, r), (le-refl _, q))
+      later false l p q r s = (a .start, (le-refl _, p), (omega (arith, leb-false (a .start) (b .start) l), s))
+
+-- one byte of a range changed
+pub set-outside : (r : ByteRange) (c : List ℕ) (j v : ℕ) → In r j → SameOutside r c (set c j v)
+set-outside r c j v p =
+    record { size = sym (length-set c j v); bytes = λ i out. sym (getD-set-other c j i v 0 (λ e. out (subst (In r) (sym e) p))) }
+
+-- ---- what is read from a range depends on its bytes alone
+
+module _ (r : ByteRange) (c d : List ℕ) (same : SameIn r c d) where
+  u32-same : (at : ℕ) → r .start ≤ at → at + 4 ≤ r .end → u32At c at ≡ u32At d at
+  u32-same at l m =
+      let byte : (k : ℕ) → k < 4 → getD c (at + k) 0 ≡ getD d (at + k) 0 = λ k p. same (at + k) (omega (arith, l), omega (arith, p, m)) in
+      rw (u32-bytes c at, u32-bytes d at, byte 0 (lit< tt), byte 1 (lit< tt), byte 2 (lit< tt), byte 3 (lit< tt))
+
+  u64-same : (at : ℕ) → r .start ≤ at → at + 8 ≤ r .end → u64At c at ≡ u64At d at
+  u64-same at l m = rw (u64-words c at, u64-words d at, u32-same at l (omega (arith, m)), u32-same (at + 4) (omega (arith, l)) (omega (arith, m)))
+
+  words-same : (at n : ℕ) → r .start ≤ at → at + 4 * n ≤ r .end → wordsAt c at n ≡ wordsAt d at n
+  words-same at zero l m = refl
+  words-same at (suc n) l m = rw (u32-same at l (omega (arith, m)), words-same (at + 4) n (omega (arith, l)) (omega (arith, m)))
+
+module _ (c d : List ℕ) (size : length c ≡ length d) (same : SameIn headerBytes c d) where
+  word : (at : ℕ) → at + 4 ≤ 64 → u32At c at ≡ u32At d at
+  word at l = u32-same headerBytes c d same at (omega arith) l
+
+  double : (at : ℕ) → at + 8 ≤ 64 → u64At c at ≡ u64At d at
+  double at l = u64-same headerBytes c d same at (omega arith) l
+
+  grid-same : gridAt c ≡ gridAt d
+  unfolding gridAt
+  grid-same =
+      rw (
+        word 0 (lit≤ tt),
+        word 4 (lit≤ tt),
+        double 8 (lit≤ tt),
+        double 16 (lit≤ tt),
+        double 24 (lit≤ tt),
+        double 32 (lit≤ tt),
+      )
+
+  fields-same : (x : Decimation) → headerAt c x ≡ headerAt d x
+  unfolding headerAt
+  fields-same x = rw (word 40 (lit≤ tt), word 48 (lit≤ tt), word 52 (lit≤ tt), word 56 (lit≤ tt))
+
+  with-grid-same : (g : Grid) → withGrid c g ≡ withGrid d g
+  with-grid-same g =
+      let fields : (x : Decimation) → withHeader c g (headerAt c x) ≡ withHeader d g (headerAt d x) = λ x. rw (fields-same x, size) in
+      λ i. andThen (decimationNew g (word 44 (lit≤ tt) i)) (λ x. fields x i)
+
+  -- the header, by the card's length and its first 64 bytes
+  pub header-same : readHeader c ≡ readHeader d
+  unfolding readHeader
+  header-same =
+      let rest : andThen (gridNew (gridAt c)) (withGrid c) ≡ andThen (gridNew (gridAt d)) (withGrid d)
+      = λ i. andThen (gridNew (grid-same i)) (λ g. with-grid-same g i) in
+      rw (size, word 60 (lit≤ tt), rest)
+
+module _ (c d : List ℕ) (h : Header) where
+  pub circle-same : SameIn (circleBytes h) c d → (i : ℕ) → i < h .circles → circleAt c h i ≡ circleAt d h i
+  unfolding circleAt
+  circle-same same i l =
+      let at = h .«circles_at» + 16 * i in
+      let past : at + 16 ≤ circleBytes h .end = omega (arith, l) in
+      rw (
+        u32-same (circleBytes h) c d same at (omega arith) (omega (arith, past)),
+        u32-same (circleBytes h) c d same (at + 4) (omega arith) (omega (arith, past)),
+        u64-same (circleBytes h) c d same (at + 8) (omega arith) (omega (arith, past)),
+      )
+
+  pub row-same : SameIn (rowBytes h) c d → (i : ℕ) → i < h .decimation .source .height → rowAt c h i ≡ rowAt d h i
+  unfolding rowAt
+  row-same same i l =
+      let w = h .decimation .source .width in
+      words-same (rowBytes h) c d same (h .«rows_at» + 4 * (i * w)) w (omega arith)
+      (omega (arith, mul-le-mul-right w l, suc-mul i w, mul-comm w (h .decimation .source .height)))
+
+-- ---- an accepted card
+
+module _ (card : List ℕ) (h : Header) (e : readHeader card ≡ answered h) where
+  -- no byte belongs to two of header, rows and circles
+  pub no-byte-twice : (i : ℕ)
+      → (In headerBytes i → In (rowBytes h) i → ⊥) × (In headerBytes i → In (circleBytes h) i → ⊥) × (In (rowBytes h) i → In (circleBytes h) i → ⊥)
+  no-byte-twice i =
+      let p = both _ (disjoint (rowBytes h) (circleBytes h)) (accepted card h e .apart) in
+      let q = both (disjoint headerBytes (rowBytes h)) (disjoint headerBytes (circleBytes h)) (p .0) in
+      let never : (a b : ByteRange) → disjoint a b ≡ true → In a i → In b i → ⊥ = λ a b t u v. false≢true (sym (shared-overlap a b i u v) ∙ t) in
+      (never _ _ (q .0), never _ _ (q .1), never _ _ (p .1))
+
+  -- whatever the bytes of the rows become, the header is read as before, and every circle is as it was
+  pub rows-changed : (d : List ℕ) → SameOutside (rowBytes h) card d
+      → (readHeader d ≡ answered h) × ((i : ℕ) → i < h .circles → circleAt d h i ≡ circleAt card h i)
+  rows-changed d same = (
+    sym (header-same card d (same .size) (λ i p. same .bytes i (λ q. no-byte-twice i .0 p q))) ∙ e,
+    λ i l. sym (circle-same card d h (λ j p. same .bytes j (λ q. no-byte-twice j .2 q p)) i l),
+  )
+
+  -- whatever the bytes of the circles become, the header is read as before, and every row is as it was
+  pub circles-changed : (d : List ℕ) → SameOutside (circleBytes h) card d
+      → (readHeader d ≡ answered h) × ((i : ℕ) → i < h .decimation .source .height → rowAt d h i ≡ rowAt card h i)
+  circles-changed d same = (
+    sym (header-same card d (same .size) (λ i p. same .bytes i (λ q. no-byte-twice i .1 p q))) ∙ e,
+    λ i l. sym (row-same card d h (λ j p. same .bytes j (λ q. no-byte-twice j .2 p q)) i l),
+  )
