@@ -96,7 +96,7 @@ impl Refused {
             (25, Check::Header) => "shorter than its header",
             (25, _) => "rows or circles past the card's end",
             (26, _) => "the word at 60 is not zero",
-            (32, _) => "header, rows and circles overlap",
+            (32, _) => "two of header, rows and circles overlap",
             (_, Check::Length) => "longer than 65,536 bytes",
             _ => "(width + 1) × (height + 1) over 8,192",
         }

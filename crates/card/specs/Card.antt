@@ -50,7 +50,7 @@ inside card r = leb (r .end) (length card)
 abbrev pub hasNoBytes : ByteRange → Bool
 hasNoBytes r = leb (r .end) (r .start)
 
--- document 02, C-17: two ranges are disjoint. An empty one overlaps nothing; of two others one ends before the other starts, or where it does
+-- document 02, C-17: two byte ranges are disjoint. An empty one overlaps nothing; of two others one ends before the other starts, or just there
 abbrev pub disjoint : ByteRange → ByteRange → Bool
 disjoint a b = hasNoBytes a || hasNoBytes b || leb (a .end) (b .start) || leb (b .end) (a .start)
 

@@ -98,19 +98,19 @@ fn are_apart(rows: ByteRange, circles: ByteRange) -> bool
     ensures { λ r. ⌜ r ≡ sectionsApart rows circles ⌝ }
 {
     let header = ByteRange { start: 0, end: 64 };
-    let above_rows = are_disjoint(header, rows);
-    let above_circles = are_disjoint(header, circles);
-    let between = are_disjoint(rows, circles);
-    above_rows & above_circles & between
+    let header_rows = are_disjoint(header, rows);
+    let header_circles = are_disjoint(header, circles);
+    let rows_circles = are_disjoint(rows, circles);
+    header_rows & header_circles & rows_circles
 }
 
 // 25 (sections), 32.
 fn section_refusal(card: &[u8], rows: ByteRange, circles: ByteRange) -> u32
     ensures { λ n. ⌜ n ≡ sectionRefusal (now (card .entry)) rows circles ⌝ }
 {
-    let rows_end = is_inside(card, rows);
-    let circles_end = is_inside(card, circles);
-    let ends = !(rows_end & circles_end);
+    let rows_inside = is_inside(card, rows);
+    let circles_inside = is_inside(card, circles);
+    let ends = !(rows_inside & circles_inside);
     let overlap = !are_apart(rows, circles);
     let overlapping = first(overlap, refusal::SECTIONS_OVERLAP, refusal::PASSED);
     first(ends, refusal::CARD_ENDS_EARLY, overlapping)
