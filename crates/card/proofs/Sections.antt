@@ -6,7 +6,7 @@ use Prim.Native.Nat.{ℕ, zero, suc, _+_, _*_, _≤_, _<_}
 use native.Mathlib.Nat.{le-refl, mul-comm, mul-le-mul-right, suc-mul}
 use native.Mathlib.Omega.{arith}
 use borrow.Author.Tests.{leb-true, leb-false, lt-leb}
-use lib.Dec.{leb, lit≤, lit<}
+use lib.Dec.{T, leb, leb→le, lit<}
 use lib.ListN.{length, getD, set, length-set}
 use lib.Seq.{getD-set-other}
 use Rattle.refusal.specs.Refusal.{answered, andThen}
@@ -49,7 +49,7 @@ module _ (a b : ByteRange) where
       later true l p q r s = (b .start, (leb-true _ _ l, r), (le-refl _, q))
       later false l p q r s = (a .start, (le-refl _, p), (omega (arith, leb-false (a .start) (b .start) l), s))
 
--- one byte of a range changed
+-- one byte of a range changed: outside it the card is the same
 pub set-outside : (r : ByteRange) (c : List ℕ) (j v : ℕ) → In r j → SameOutside r c (set c j v)
 set-outside r c j v p =
     record { size = sym (length-set c j v); bytes = λ i out. sym (getD-set-other c j i v 0 (λ e. out (subst (In r) (sym e) p))) }
@@ -70,32 +70,24 @@ module _ (r : ByteRange) (c d : List ℕ) (same : SameIn r c d) where
   words-same at (suc n) l m = rw (u32-same at l (omega (arith, m)), words-same (at + 4) n (omega (arith, l)) (omega (arith, m)))
 
 module _ (c d : List ℕ) (size : length c ≡ length d) (same : SameIn headerBytes c d) where
-  word : (at : ℕ) → at + 4 ≤ 64 → u32At c at ≡ u32At d at
-  word at l = u32-same headerBytes c d same at (omega arith) l
+  word : (at : ℕ) → T (leb (at + 4) 64) → u32At c at ≡ u32At d at
+  word at t = u32-same headerBytes c d same at (omega arith) (leb→le (at + 4) 64 t)
 
-  double : (at : ℕ) → at + 8 ≤ 64 → u64At c at ≡ u64At d at
-  double at l = u64-same headerBytes c d same at (omega arith) l
+  double : (at : ℕ) → T (leb (at + 8) 64) → u64At c at ≡ u64At d at
+  double at t = u64-same headerBytes c d same at (omega arith) (leb→le (at + 8) 64 t)
 
   grid-same : gridAt c ≡ gridAt d
   unfolding gridAt
-  grid-same =
-      rw (
-        word 0 (lit≤ tt),
-        word 4 (lit≤ tt),
-        double 8 (lit≤ tt),
-        double 16 (lit≤ tt),
-        double 24 (lit≤ tt),
-        double 32 (lit≤ tt),
-      )
+  grid-same = rw (word 0 tt, word 4 tt, double 8 tt, double 16 tt, double 24 tt, double 32 tt)
 
   fields-same : (x : Decimation) → headerAt c x ≡ headerAt d x
   unfolding headerAt
-  fields-same x = rw (word 40 (lit≤ tt), word 48 (lit≤ tt), word 52 (lit≤ tt), word 56 (lit≤ tt))
+  fields-same x = rw (word 40 tt, word 48 tt, word 52 tt, word 56 tt)
 
   with-grid-same : (g : Grid) → withGrid c g ≡ withGrid d g
   with-grid-same g =
       let fields : (x : Decimation) → withHeader c g (headerAt c x) ≡ withHeader d g (headerAt d x) = λ x. rw (fields-same x, size) in
-      λ i. andThen (decimationNew g (word 44 (lit≤ tt) i)) (λ x. fields x i)
+      λ i. andThen (decimationNew g (word 44 tt i)) (λ x. fields x i)
 
   -- the header, by the card's length and its first 64 bytes
   pub header-same : readHeader c ≡ readHeader d
@@ -103,7 +95,7 @@ module _ (c d : List ℕ) (size : length c ≡ length d) (same : SameIn headerBy
   header-same =
       let rest : andThen (gridNew (gridAt c)) (withGrid c) ≡ andThen (gridNew (gridAt d)) (withGrid d)
       = λ i. andThen (gridNew (grid-same i)) (λ g. with-grid-same g i) in
-      rw (size, word 60 (lit≤ tt), rest)
+      rw (size, word 60 tt, rest)
 
 module _ (c d : List ℕ) (h : Header) where
   pub circle-same : SameIn (circleBytes h) c d → (i : ℕ) → i < h .circles → circleAt c h i ≡ circleAt d h i
@@ -111,9 +103,10 @@ module _ (c d : List ℕ) (h : Header) where
   circle-same same i l =
       let at = h .«circles_at» + 16 * i in
       let past : at + 16 ≤ circleBytes h .end = omega (arith, l) in
+      let word = u32-same (circleBytes h) c d same in
       rw (
-        u32-same (circleBytes h) c d same at (omega arith) (omega (arith, past)),
-        u32-same (circleBytes h) c d same (at + 4) (omega arith) (omega (arith, past)),
+        word at (omega arith) (omega (arith, past)),
+        word (at + 4) (omega arith) (omega (arith, past)),
         u64-same (circleBytes h) c d same (at + 8) (omega arith) (omega (arith, past)),
       )
 
