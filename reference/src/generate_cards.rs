@@ -1,7 +1,7 @@
 // Cards, good and damaged. Each depends on the seed and its own number alone.
 use crate::generate_sections;
 use crate::generate_shares::{self, Shares};
-use crate::make_card::{laid_out, placed, usual};
+use crate::make_card::{placed, usual};
 use crate::random::Random;
 
 impl Random {
@@ -255,7 +255,8 @@ fn worst(r: &mut Random) -> Vec<u8> {
         circles.extend((r.below(20_016) as f64).to_le_bytes());
     }
     let lon_step = 360.0 / 4095.0;
-    laid_out([4095, 1], [60.0, -180.0, lon_step, -1.0], 0xc61c_3c00, 1, &rows, &circles)
+    let at = usual(rows.len());
+    placed([4095, 1], [60.0, -180.0, lon_step, -1.0], 0xc61c_3c00, 1, &rows, &circles, at)
 }
 
 #[derive(Clone, Copy)]

@@ -245,18 +245,6 @@ pub fn usual(rows: usize) -> [u32; 2] {
     [64, 64 + rows as u32]
 }
 
-/// Header, rows and circles at their usual places.
-pub fn laid_out(
-    size: [u32; 2],
-    degrees: [f64; 4],
-    nodata: u32,
-    factor: u32,
-    rows: &[u8],
-    circles: &[u8],
-) -> Vec<u8> {
-    placed(size, degrees, nodata, factor, rows, circles, usual(rows.len()))
-}
-
 /// The sections at these offsets, with zeros between. Where they overlap, the circles stand over the rows and the header over
 /// both.
 pub fn placed(
