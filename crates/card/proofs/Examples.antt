@@ -2,11 +2,11 @@
 use mathlib.Core.Path.{_≡_, refl}
 use mathlib.Core.List.{[], _∷_}
 use Prim.Native.Nat.{ℕ}
-use lib.ListN.{replicate}
+use Rattle.sections.specs.Sections.{sectionRefusal}
 use Rattle.grid.specs.Example.{exampleGrid}
 use Rattle.decimation.specs.Decimation.{decimationOf}
 use Rattle.card.specs.declared.Header.{Header}
-use Rattle.card.specs.Card.{rowBytes, circleBytes, sectionRefusal}
+use Rattle.card.specs.Card.{rowBytes, circleBytes}
 
 -- rows at r, n circles at c
 abbrev placed : ℕ → ℕ → ℕ → Header
@@ -14,7 +14,7 @@ placed r n c = record { decimation = decimationOf exampleGrid 1; nodata = 0; «r
 
 -- the number that its sections give
 abbrev number : ℕ → ℕ → ℕ → ℕ
-number r n c = sectionRefusal (replicate 176 0) (rowBytes (placed r n c)) (circleBytes (placed r n c))
+number r n c = sectionRefusal 176 (rowBytes (placed r n c)) (circleBytes (placed r n c))
 
 -- they touch: circles behind the rows, ahead of them; and with a byte between
 touching : number 64 5 96 ∷ number 144 5 64 ∷ number 65 4 98 ∷ [] ≡ 0 ∷ 0 ∷ 0 ∷ []

@@ -12,6 +12,7 @@ use lib.ListN.{length}
 use Rattle.refusal.specs.Refusal.{Outcome, answered, first, passed, outcome, andThen, cardEndsEarly, cardTooLarge, sectionsOverlap}
 use Rattle.refusal.proofs.Chains.{first-passed, answered-passed, went-past, went-on}
 use Rattle.refusal.proofs.Tests.{both}
+use Rattle.sections.specs.Sections.{inside, sectionsApart, sectionRefusal}
 use Rattle.grid.specs.declared.Grid.{Grid}
 use Rattle.grid.specs.Grid.{gridNew}
 use Rattle.grid.proofs.Wrapped.{made-valid}
@@ -20,8 +21,7 @@ use Rattle.decimation.specs.Decimation.{decimationOf, decimationNew, factorRefu
 use Rattle.decimation.proofs.Factors.{decimation-made, framed}
 use Rattle.card.specs.declared.Header.{Header}
 use Rattle.card.specs.Words.{u32At, u64At}
-use Rattle.card.specs.Card.{gridAt, headerAt, rowBytes, circleBytes, inside, sectionsApart, sectionRefusal}
-use Rattle.card.specs.Card.{tableTooLarge, withHeader, withGrid, readHeader}
+use Rattle.card.specs.Card.{gridAt, headerAt, rowBytes, circleBytes, tableTooLarge, withHeader, withGrid, readHeader}
 use Rattle.card.specs.private.Accepted.{FewCells, Accepted}
 
 -- ---- an accepted header
@@ -54,11 +54,11 @@ header-accepted card g d h whole made e =
     let x = headerAt card d in
     let rows = rowBytes x in
     let circles = circleBytes x in
-    let p = answered-passed (first (tableTooLarge g) cardTooLarge (sectionRefusal card rows circles)) x h e in
-    let q = first-passed (tableTooLarge g) cardTooLarge (sectionRefusal card rows circles) tt (p .0) in
+    let p = answered-passed (first (tableTooLarge g) cardTooLarge (sectionRefusal (length card) rows circles)) x h e in
+    let q = first-passed (tableTooLarge g) cardTooLarge (sectionRefusal (length card) rows circles) tt (p .0) in
     let r = first-passed _ cardEndsEarly (first (not (sectionsApart rows circles)) sectionsOverlap passed) tt (q .1) in
     let from = decimation-made g (u32At card 44) d made .is in
-    let s = both (inside card rows) (inside card circles) (not-false _ (r .0)) in
+    let s = both (inside (length card) rows) (inside (length card) circles) (not-false _ (r .0)) in
     subst (λ (y : Header). Accepted card y) (p .1)
     record {
       whole = whole;

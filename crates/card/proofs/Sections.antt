@@ -1,53 +1,26 @@
 -- Document 02, C-17: header, rows and circles of an accepted card share no byte, and each is read from its own bytes alone. Assumes nothing.
 use mathlib.Core.Path.{_≡_, refl, sym, subst, _∙_}
-use mathlib.Core.Bool.{Bool, true, false, false≢true}
 use mathlib.Core.List.{List}
 use Prim.Native.Nat.{ℕ, zero, suc, _+_, _*_, _≤_, _<_}
-use native.Mathlib.Nat.{le-refl, mul-comm, mul-le-mul-right, suc-mul}
+use native.Mathlib.Nat.{mul-comm, mul-le-mul-right, suc-mul}
 use native.Mathlib.Omega.{arith}
-use borrow.Author.Tests.{leb-true, leb-false, lt-leb}
 use lib.Dec.{T, leb, leb→le, lit<}
 use lib.ListN.{length, getD, set, length-set}
 use lib.Seq.{getD-set-other}
 use Rattle.refusal.specs.Refusal.{answered, andThen}
-use Rattle.refusal.proofs.Tests.{both, neither}
+use Rattle.sections.specs.declared.ByteRange.{ByteRange}
+use Rattle.sections.specs.Sections.{headerBytes, In, Apart}
+use Rattle.sections.proofs.Ranges.{none-shared}
 use Rattle.grid.specs.declared.Grid.{Grid}
 use Rattle.grid.specs.Grid.{gridNew}
 use Rattle.decimation.specs.declared.Decimation.{Decimation}
 use Rattle.decimation.specs.Decimation.{decimationNew}
 use Rattle.card.specs.declared.Header.{Header}
-use Rattle.card.specs.declared.ByteRange.{ByteRange}
 use Rattle.card.specs.Words.{u32At, u64At, wordsAt}
-use Rattle.card.specs.Bytes.{In, SameIn, SameOutside}
-use Rattle.card.specs.Card.{gridAt, headerAt, headerBytes, rowBytes, circleBytes, hasNoBytes, disjoint}
-use Rattle.card.specs.Card.{withHeader, withGrid, readHeader, rowAt, circleAt}
+use Rattle.card.specs.Bytes.{SameIn, SameOutside}
+use Rattle.card.specs.Card.{gridAt, headerAt, rowBytes, circleBytes, withHeader, withGrid, readHeader, rowAt, circleAt}
 use Rattle.card.proofs.Bytes.{u32-bytes, u64-words}
 use Rattle.card.proofs.Headers.{accepted}
-
--- ---- disjoint, both ways: ranges that share a byte are not disjoint, and ranges that are not disjoint share one
-
-module _ (a b : ByteRange) where
-  pub shared-overlap : (i : ℕ) → In a i → In b i → disjoint a b ≡ false
-  shared-overlap i p q =
-      rw (
-        lt-leb (a .end) (a .start) (omega (arith, p)),
-        lt-leb (b .end) (b .start) (omega (arith, q)),
-        lt-leb (a .end) (b .start) (omega (arith, p, q)),
-        lt-leb (b .end) (a .start) (omega (arith, p, q)),
-      )
-
-  pub overlap-shared : disjoint a b ≡ false → (i : ℕ) × In a i × In b i
-  overlap-shared e =
-      let p = neither _ (leb (b .end) (a .start)) e in
-      let q = neither _ (leb (a .end) (b .start)) (p .0) in
-      let r = neither (hasNoBytes a) (hasNoBytes b) (q .0) in
-      later (leb (a .start) (b .start)) refl (leb-false _ _ (r .0)) (leb-false _ _ (r .1)) (leb-false _ _ (q .1)) (leb-false _ _ (p .1))
-    where
-      -- the later start
-      later : (t : Bool) → leb (a .start) (b .start) ≡ t → a .start < a .end → b .start < b .end → b .start < a .end → a .start < b .end
-          → (i : ℕ) × In a i × In b i
-      later true l p q r s = (b .start, (leb-true _ _ l, r), (le-refl _, q))
-      later false l p q r s = (a .start, (le-refl _, p), (omega (arith, leb-false (a .start) (b .start) l), s))
 
 -- one byte of a range changed: outside it the card is the same
 pub set-outside : (r : ByteRange) (c : List ℕ) (j v : ℕ) → In r j → SameOutside r c (set c j v)
@@ -121,26 +94,21 @@ module _ (c d : List ℕ) (h : Header) where
 
 module _ (card : List ℕ) (h : Header) (e : readHeader card ≡ answered h) where
   -- no byte belongs to two of header, rows and circles
-  pub no-byte-twice : (i : ℕ)
-      → (In headerBytes i → In (rowBytes h) i → ⊥) × (In headerBytes i → In (circleBytes h) i → ⊥) × (In (rowBytes h) i → In (circleBytes h) i → ⊥)
-  no-byte-twice i =
-      let p = both _ (disjoint (rowBytes h) (circleBytes h)) (accepted card h e .apart) in
-      let q = both (disjoint headerBytes (rowBytes h)) (disjoint headerBytes (circleBytes h)) (p .0) in
-      let never : (a b : ByteRange) → disjoint a b ≡ true → In a i → In b i → ⊥ = λ a b t u v. false≢true (sym (shared-overlap a b i u v) ∙ t) in
-      (never _ _ (q .0), never _ _ (q .1), never _ _ (p .1))
+  pub no-byte-twice : Apart headerBytes (rowBytes h) × Apart headerBytes (circleBytes h) × Apart (rowBytes h) (circleBytes h)
+  no-byte-twice = none-shared (rowBytes h) (circleBytes h) (accepted card h e .apart)
 
   -- whatever the bytes of the rows become, the header is read as before, and every circle is as it was
   pub rows-changed : (d : List ℕ) → SameOutside (rowBytes h) card d
       → (readHeader d ≡ answered h) × ((i : ℕ) → i < h .circles → circleAt d h i ≡ circleAt card h i)
   rows-changed d same = (
-    sym (header-same card d (same .size) (λ i p. same .bytes i (λ q. no-byte-twice i .0 p q))) ∙ e,
-    λ i l. sym (circle-same card d h (λ j p. same .bytes j (λ q. no-byte-twice j .2 q p)) i l),
+    sym (header-same card d (same .size) (λ i p. same .bytes i (λ q. no-byte-twice .0 i p q))) ∙ e,
+    λ i l. sym (circle-same card d h (λ j p. same .bytes j (λ q. no-byte-twice .2 j q p)) i l),
   )
 
   -- whatever the bytes of the circles become, the header is read as before, and every row is as it was
   pub circles-changed : (d : List ℕ) → SameOutside (circleBytes h) card d
       → (readHeader d ≡ answered h) × ((i : ℕ) → i < h .decimation .source .height → rowAt d h i ≡ rowAt card h i)
   circles-changed d same = (
-    sym (header-same card d (same .size) (λ i p. same .bytes i (λ q. no-byte-twice i .1 p q))) ∙ e,
-    λ i l. sym (row-same card d h (λ j p. same .bytes j (λ q. no-byte-twice j .2 p q)) i l),
+    sym (header-same card d (same .size) (λ i p. same .bytes i (λ q. no-byte-twice .1 i p q))) ∙ e,
+    λ i l. sym (row-same card d h (λ j p. same .bytes j (λ q. no-byte-twice .2 j p q)) i l),
   )

@@ -1,13 +1,10 @@
--- Document 02, C-17: which bytes a range has, and cards that differ in one range alone. The laws of proofs/Sections are stated by these.
+-- Document 02, C-17: cards that differ in one range of bytes alone. The laws of proofs/Sections are stated by these.
 use mathlib.Core.List.{List}
 use mathlib.Core.Path.{_≡_}
-use Prim.Native.Nat.{ℕ, _≤_, _<_}
+use Prim.Native.Nat.{ℕ}
 use lib.ListN.{length, getD}
-use Rattle.card.specs.declared.ByteRange.{ByteRange}
-
--- byte i is one of a range
-abbrev pub In : ByteRange → ℕ → Type 0
-In r i = (r .start ≤ i) × (i < r .end)
+use Rattle.sections.specs.declared.ByteRange.{ByteRange}
+use Rattle.sections.specs.Sections.{In}
 
 -- two cards have the same bytes in a range
 abbrev pub SameIn : ByteRange → List ℕ → List ℕ → Type 0

@@ -1,11 +1,12 @@
 -- Document 01, 'The card': the header, its checks in their order, and the two sections.
 use mathlib.Core.List.{List}
-use mathlib.Core.Bool.{Bool, not, cond, _&&_, _||_}
+use mathlib.Core.Bool.{Bool, not, cond}
 use Prim.Native.Nat.{ℕ, _+_, _*_}
-use lib.Dec.{eqb, ltb, leb}
+use lib.Dec.{eqb, ltb}
 use lib.ListN.{length}
-use Rattle.refusal.specs.Refusal.{Outcome, answered, refused, first, passed, outcome, andThen}
-use Rattle.refusal.specs.Refusal.{cardEndsEarly, cardWordNotZero, cardTooLarge, sectionsOverlap}
+use Rattle.refusal.specs.Refusal.{Outcome, answered, refused, first, outcome, andThen, cardEndsEarly, cardWordNotZero, cardTooLarge}
+use Rattle.sections.specs.declared.ByteRange.{ByteRange}
+use Rattle.sections.specs.Sections.{sectionRefusal}
 use Rattle.grid.specs.declared.Grid.{Grid}
 use Rattle.grid.specs.Grid.{gridNew}
 use Rattle.decimation.specs.declared.Decimation.{Decimation}
@@ -13,7 +14,6 @@ use Rattle.table.specs.Place.{tableLength}
 use Rattle.decimation.specs.Decimation.{decimationNew}
 use Rattle.card.specs.Words.{u32At, f64At, wordsAt}
 use Rattle.card.specs.declared.Header.{Header}
-use Rattle.card.specs.declared.ByteRange.{ByteRange}
 use Rattle.card.specs.declared.CardCircle.{CardCircle}
 use Rattle.card.specs.declared.HeaderAnswer.{HeaderAnswer}
 use Rattle.card.specs.declared.HeaderAnswer.the-variants as header
@@ -28,42 +28,13 @@ unfoldable pub headerAt : List ℕ → Decimation → Header
 headerAt card d =
     record { decimation = d; nodata = u32At card 40; «rows_at» = u32At card 48; circles = u32At card 52; «circles_at» = u32At card 56 }
 
--- ---- header, rows and circles as ranges of bytes: from the first on, the end not among them
-
--- bytes 0 to 63
-abbrev pub headerBytes : ByteRange
-headerBytes = record { start = 0; end = 64 }
-
--- rows are f32: four bytes for each cell
+-- the bytes of the rows: f32, four bytes for each cell
 abbrev pub rowBytes : Header → ByteRange
 rowBytes h = record { start = h .«rows_at»; end = h .«rows_at» + 4 * (h .decimation .source .width * h .decimation .source .height) }
 
--- a circle is 16 bytes
+-- the bytes of the circles: 16 for each
 abbrev pub circleBytes : Header → ByteRange
 circleBytes h = record { start = h .«circles_at»; end = h .«circles_at» + 16 * h .circles }
-
--- offset plus length is at most the file's length
-abbrev pub inside : List ℕ → ByteRange → Bool
-inside card r = leb (r .end) (length card)
-
--- an empty section
-abbrev pub hasNoBytes : ByteRange → Bool
-hasNoBytes r = leb (r .end) (r .start)
-
--- document 02, C-17: two byte ranges are disjoint. An empty one overlaps nothing; of two others one ends before the other starts, or just there
-abbrev pub disjoint : ByteRange → ByteRange → Bool
-disjoint a b = hasNoBytes a || hasNoBytes b || leb (a .end) (b .start) || leb (b .end) (a .start)
-
--- document 02, C-17: header, rows and circles are disjoint byte ranges
-abbrev pub sectionsApart : ByteRange → ByteRange → Bool
-sectionsApart rows circles = disjoint headerBytes rows && disjoint headerBytes circles && disjoint rows circles
-
--- 25 (sections), 32
-abbrev pub sectionRefusal : List ℕ → ByteRange → ByteRange → ℕ
-sectionRefusal card rows circles =
-    first (not (inside card rows && inside card circles)) cardEndsEarly (first (not (sectionsApart rows circles)) sectionsOverlap passed)
-
--- ---- the checks
 
 -- 27 (table): the source table has over 8,192 cells
 abbrev pub tableTooLarge : Grid → Bool
@@ -76,7 +47,7 @@ headerOutcome (header.Refused n) = refused n
 
 -- 27 (table), 25 (sections), 32
 abbrev pub withHeader : List ℕ → Grid → Header → Outcome Header
-withHeader card g h = outcome (first (tableTooLarge g) cardTooLarge (sectionRefusal card (rowBytes h) (circleBytes h))) h
+withHeader card g h = outcome (first (tableTooLarge g) cardTooLarge (sectionRefusal (length card) (rowBytes h) (circleBytes h))) h
 
 -- 10 with the coarse grid's own 1 to 9 (factor u32 at 44), then those
 abbrev pub withGrid : List ℕ → Grid → Outcome Header

@@ -1,4 +1,4 @@
--- The definitions that the contracts of `card` cite.
+-- The definitions that the contracts and laws of `card` cite.
 pub mod Words
 pub mod Card
 pub mod Bytes

@@ -15,12 +15,6 @@ pub struct Header {
     pub circles_at: u32,
 }
 
-// Bytes of a card, from `start` on; `end` is the first behind them.
-struct ByteRange {
-    start: u64,
-    end: u64,
-}
-
 // A circle as the card has it: nothing of it is tested yet.
 pub struct CardCircle {
     pub row: u32,

@@ -1,10 +1,8 @@
 // The card's header and its checks, in their order.
 ghost use mathlib.Core.Path.{_≡_};
 ghost use Rattle.grid.specs.Grid.{gridOutcome, gridNew};
-ghost use Rattle.card.specs.Card.{gridAt, headerAt, rowBytes, circleBytes, inside, disjoint, sectionsApart, sectionRefusal};
-ghost use Rattle.card.specs.Card.{tableTooLarge, headerOutcome, withHeader, withGrid, readHeader};
+ghost use Rattle.card.specs.Card.{gridAt, headerAt, rowBytes, circleBytes, tableTooLarge, headerOutcome, withHeader, withGrid, readHeader};
 ghost use Rattle.card.specs.private.Accepted.{FewCells};
-use crate::ByteRange;
 use crate::Header;
 use crate::HeaderAnswer;
 use crate::words::f64_at;
@@ -15,6 +13,8 @@ use geodesy::LatLon;
 use grid::Grid;
 use grid::GridAnswer;
 use refusal::first;
+use sections::ByteRange;
+use sections::section_refusal;
 use table::Table;
 
 // The most bytes of a card, and the most cells of its source table.
@@ -80,43 +80,7 @@ fn circles_of(h: Header) -> ByteRange
     }
 }
 
-// A section may end at the card's end.
-fn is_inside(card: &[u8], section: ByteRange) -> bool
-    ensures { λ r. ⌜ r ≡ inside (now (card .entry)) section ⌝ }
-{
-    section.end <= card.len() as u64
-}
-
-// Ranges that touch are disjoint, and an empty one overlaps nothing.
-fn are_disjoint(a: ByteRange, b: ByteRange) -> bool
-    ensures { λ r. ⌜ r ≡ disjoint a b ⌝ }
-{
-    (a.end <= a.start) | (b.end <= b.start) | (a.end <= b.start) | (b.end <= a.start)
-}
-
-fn are_apart(rows: ByteRange, circles: ByteRange) -> bool
-    ensures { λ r. ⌜ r ≡ sectionsApart rows circles ⌝ }
-{
-    let header = ByteRange { start: 0, end: 64 };
-    let header_rows = are_disjoint(header, rows);
-    let header_circles = are_disjoint(header, circles);
-    let rows_circles = are_disjoint(rows, circles);
-    header_rows & header_circles & rows_circles
-}
-
-// 25 (sections), 32.
-fn section_refusal(card: &[u8], rows: ByteRange, circles: ByteRange) -> u32
-    ensures { λ n. ⌜ n ≡ sectionRefusal (now (card .entry)) rows circles ⌝ }
-{
-    let rows_inside = is_inside(card, rows);
-    let circles_inside = is_inside(card, circles);
-    let ends = !(rows_inside & circles_inside);
-    let overlap = !are_apart(rows, circles);
-    let overlapping = first(overlap, refusal::SECTIONS_OVERLAP, refusal::PASSED);
-    first(ends, refusal::CARD_ENDS_EARLY, overlapping)
-}
-
-// 27 (table), then those.
+// 27 (table), 25 (sections), 32.
 fn with_header(card: &[u8], h: Header) -> HeaderAnswer
     requires { ⌜ FewCells (h .decimation .source) ⌝ }
     ensures { λ r. ⌜ headerOutcome r ≡ withHeader (now (card .entry)) (h .decimation .source) h ⌝ }
@@ -125,7 +89,7 @@ fn with_header(card: &[u8], h: Header) -> HeaderAnswer
     let large = is_table_too_large(d.source);
     let rows = rows_of(h);
     let circles = circles_of(h);
-    let sections = section_refusal(card, rows, circles);
+    let sections = section_refusal(card.len(), rows, circles);
     let n = first(large, refusal::CARD_TOO_LARGE, sections);
     if n != refusal::PASSED {
         return HeaderAnswer::Refused(n);

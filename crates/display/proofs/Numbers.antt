@@ -14,6 +14,7 @@ use Rattle.refusal.specs.Refusal.{cardTooLarge, cardEndsEarly, cardWordNotZero,
 use Rattle.refusal.specs.Refusal.{radiusNotFinite, radiusBelowZero, rowOffGrid, columnsDontClose, columnOffGrid}
 use Rattle.refusal.proofs.Chains.{first-only, outcome-only, past-only, then-only}
 use Rattle.float.specs.Float.{f64zero}
+use Rattle.sections.specs.Sections.{inside, sectionsApart, sectionRefusal}
 use Rattle.grid.specs.declared.Grid.{Grid}
 use Rattle.grid.specs.Grid.{gridRefusal, gridNew}
 use Rattle.grid.specs.Lookup.{closes}
@@ -23,8 +24,7 @@ use Rattle.decimation.proofs.Factors.{factor-numbers}
 use Rattle.card.specs.declared.Header.{Header}
 use Rattle.card.specs.declared.CardCircle.{CardCircle}
 use Rattle.card.specs.Words.{u32At}
-use Rattle.card.specs.Card.{gridAt, headerAt, rowBytes, circleBytes, inside, sectionsApart, sectionRefusal, tableTooLarge}
-use Rattle.card.specs.Card.{withHeader, withGrid, readHeader, circleAt}
+use Rattle.card.specs.Card.{gridAt, headerAt, rowBytes, circleBytes, tableTooLarge, withHeader, withGrid, readHeader, circleAt}
 use Rattle.card.proofs.Headers.{never-22}
 use Rattle.report.specs.Printed.{circleChecks}
 use Rattle.display.specs.Display.{ofCard, ofCircle, NumbersShown}
@@ -52,9 +52,9 @@ module _ (card : List ℕ) where
       let rows = rowBytes h in
       let circles = circleBytes h in
       let overlap = first (not (sectionsApart rows circles)) sectionsOverlap passed in
-      outcome-only OfCard (first (tableTooLarge g) cardTooLarge (sectionRefusal card rows circles)) h
-      (first-only P (tableTooLarge g) cardTooLarge (sectionRefusal card rows circles) (λ _. tt)
-      (first-only P (not (inside card rows && inside card circles)) cardEndsEarly overlap (λ _. tt)
+      outcome-only OfCard (first (tableTooLarge g) cardTooLarge (sectionRefusal (length card) rows circles)) h
+      (first-only P (tableTooLarge g) cardTooLarge (sectionRefusal (length card) rows circles) (λ _. tt)
+      (first-only P (not (inside (length card) rows && inside (length card) circles)) cardEndsEarly overlap (λ _. tt)
       (first-only P (not (sectionsApart rows circles)) sectionsOverlap passed (λ _. tt) (λ q. absurd (omega (arith, q))))))
 
   with-grid : (g : Grid) → gridNew (gridAt card) ≡ answered g → RefusedOnly OfCard (withGrid card g)

@@ -5,11 +5,12 @@ use mathlib.Core.Bool.{true}
 use Prim.Native.Nat.{ℕ, _+_, _*_, _≤_}
 use lib.ListN.{length}
 use Rattle.refusal.specs.Refusal.{answered}
+use Rattle.sections.specs.Sections.{sectionsApart}
 use Rattle.grid.specs.declared.Grid.{Grid}
 use Rattle.table.specs.Place.{tableLength}
 use Rattle.decimation.specs.Decimation.{decimationNew}
 use Rattle.card.specs.declared.Header.{Header}
-use Rattle.card.specs.Card.{rowBytes, circleBytes, sectionsApart}
+use Rattle.card.specs.Card.{rowBytes, circleBytes}
 
 -- at most 2 ^ 20 columns and 2 ^ 20 rows, so that no byte's offset wraps
 abbrev pub FewCells : Grid → Type 0

@@ -3,7 +3,9 @@
 use mathlib.Core.Path.{_≡_}
 use Rattle.refusal.specs.Refusal.{first, cardTooLarge}
 use Rattle.refusal.proofs.Chains.{refused-by}
-use Rattle.card.specs.Card.{tableTooLarge, rowBytes, circleBytes, sectionRefusal}
+use lib.ListN.{length}
+use Rattle.sections.specs.Sections.{sectionRefusal}
+use Rattle.card.specs.Card.{tableTooLarge, rowBytes, circleBytes}
 use borrow.Author.Needs.{needs}
 use Rattle.card.proofs.read.with_header.Statement.{statement}
 use Rattle.card.proofs.read.with_header.Tie as tie
@@ -11,7 +13,7 @@ use Rattle.card.proofs.read.with_header.Tie as tie
 -- the number that the checks give
 number : (c : tie.After-first)
     → let s = c .before .before .before .before .before .before .before .args in
-    first (tableTooLarge (s .h .decimation .source)) cardTooLarge (sectionRefusal (s .card .now) (rowBytes (s .h)) (circleBytes (s .h))) ≡ c .first .result
+    first (tableTooLarge (s .h .decimation .source)) cardTooLarge (sectionRefusal (length (s .card .now)) (rowBytes (s .h)) (circleBytes (s .h))) ≡ c .first .result
 number c =
     let after-rows-of = c .before .before .before in
     rw (

@@ -1,8 +1,8 @@
--- `card::read::are_apart` meets its contract.
+-- `sections::are_apart` meets its contract.
 -- Assumes nothing.
 use borrow.Author.Needs.{needs}
-use Rattle.card.proofs.read.are_apart.Statement.{statement}
-use Rattle.card.proofs.read.are_apart.Tie as tie
+use Rattle.sections.proofs.are_apart.Statement.{statement}
+use Rattle.sections.proofs.are_apart.Tie as tie
 
 returns : tie.Need-returns
 returns c = rw (c .are-disjoint3 .ensures, c .before .are-disjoint2 .ensures, c .before .before .are-disjoint .ensures)

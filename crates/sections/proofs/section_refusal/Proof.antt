@@ -1,8 +1,8 @@
--- `card::read::section_refusal` meets its contract.
+-- `sections::section_refusal` meets its contract.
 -- Assumes nothing.
 use borrow.Author.Needs.{needs}
-use Rattle.card.proofs.read.section_refusal.Statement.{statement}
-use Rattle.card.proofs.read.section_refusal.Tie as tie
+use Rattle.sections.proofs.section_refusal.Statement.{statement}
+use Rattle.sections.proofs.section_refusal.Tie as tie
 
 returns : tie.Need-returns
 returns c =

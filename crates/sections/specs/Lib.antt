@@ -1,0 +1,2 @@
+-- The definitions that the contracts and laws of `sections` cite.
+pub mod Sections
