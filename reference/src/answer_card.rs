@@ -1,5 +1,6 @@
-// A card read as document 01 says, with document 02's C-17, and what `count` prints of it, by the copies of the reference's
-// modules.
+// A card read as document 01 says, with document 02's C-16 and C-17, and what `count` prints of it, by the copies of the
+// reference's modules: its table is in row layout here.
+use crate::blocks::payload_len;
 use crate::geodesy::{LatLon, RadiusError, RadiusKm};
 use crate::grid::{Col, Grid, Row};
 use crate::kernel::Kernel;
@@ -98,7 +99,7 @@ impl Refused {
             (26, _) => "the word at 60 is not zero",
             (32, _) => "two of header, rows and circles overlap",
             (_, Check::Length) => "longer than 65,536 bytes",
-            _ => "(width + 1) × (height + 1) over 8,192",
+            _ => "64 × ⌈(width + 1) / 8⌉ × ⌈(height + 1) / 8⌉ over 8,192",
         }
     }
 
@@ -114,6 +115,9 @@ impl Refused {
         }
     }
 }
+
+/// The most places that a source table may take, whatever the factor.
+pub const MOST_PLACES: u128 = 8192;
 
 /// The order of documents 01 and 02: 27 (length), 25 (header), 26, 1 to 9, 10 with the coarse grid's own 1 to 9, 27 (table),
 /// 25 (sections), 32.
@@ -139,7 +143,7 @@ pub fn header(card: &[u8]) -> Result<Header, Refused> {
         let check = if number == 10 { Check::Factor } else { Check::Coarse };
         Refused { check, number }
     })?;
-    if (u64::from(source.width) + 1) * (u64::from(source.height) + 1) > 8192 {
+    if payload_len(&source) > MOST_PLACES {
         return Err(Refused { check: Check::Table, number: 27 });
     }
     let sections = Sections::of(card);

@@ -4,8 +4,10 @@
 
 mod answer_card;
 mod bench_calls;
+mod blocks;
 mod circle;
 mod generate_cards;
+mod generate_large;
 mod generate_sections;
 mod generate_shares;
 mod geodesy;
@@ -61,6 +63,7 @@ fn list() -> Vec<Entry> {
         list.push(entry(format!("circle_{km}"), move || bench_calls::circle(MIDDLE_ROW, f64::from(km))));
     }
     list.push(entry("rectangle", bench_calls::rectangle));
+    list.push(entry("worst_circle", bench_calls::worst_circle));
     list.push(entry("card", bench_calls::card));
     list
 }

@@ -1,7 +1,9 @@
 // The calls that are timed. Each makes its inputs once, always the same; a turn puts all of them through one side.
+use crate::blocks;
 use crate::generate_cards::{self, Kind};
+use crate::generate_large;
 use crate::random::Random;
-use crate::table::{Buffers, FNV_OFFSET_BASIS};
+use crate::table::{padded_len, Buffers, FNV_OFFSET_BASIS};
 use crate::{plain, proved};
 
 #[derive(Clone, Copy)]
@@ -22,6 +24,7 @@ pub trait Call {
 const COUNT: usize = 4096;
 const RECTANGLES: usize = 256;
 const CIRCLES: u32 = 32;
+const WORST_CIRCLES: usize = 8;
 const WIDE: usize = 1024;
 
 fn between(r: &mut Random, low: f64, high: f64) -> f64 {
@@ -108,10 +111,17 @@ pub fn great_circle_km() -> Box<dyn Call> {
     )
 }
 
+/// A table as each side takes it: the reference in row layout, the proved calls in blocks.
+struct Table {
+    rows: Vec<f64>,
+    blocks: Vec<f64>,
+}
+
 /// A table over the globe. Its cells are whole, as a raster's counts make them, and otherwise anything.
-fn table() -> Vec<f64> {
-    let mut r = Random(4);
-    (0..1801 * 901).map(|_| r.below(1_000_000_000) as f64).collect()
+fn table() -> Table {
+    let (globe, mut r) = (plain::globe(), Random(4));
+    let rows: Vec<f64> = (0..padded_len(&globe)).map(|_| r.below(1_000_000_000) as f64).collect();
+    Table { blocks: blocks::to_blocks(&globe, &rows), rows }
 }
 
 /// Circles around columns all over a row, by one kernel, which the reference makes for both sides.
@@ -122,8 +132,8 @@ pub fn circle(row: u32, km: f64) -> Box<dyn Call> {
     numbers(
         (table(), kernel.north.get(), kernel.count, widths),
         columns,
-        |(cells, north, count, widths), column| proved::circle(cells, *north, *count, widths, column),
-        |(cells, north, count, widths), column| plain::circle(cells, *north, *count, widths, column),
+        |(table, north, count, widths), column| proved::circle(&table.blocks, *north, *count, widths, column),
+        |(table, north, count, widths), column| plain::circle(&table.rows, *north, *count, widths, column),
     )
 }
 
@@ -136,8 +146,8 @@ pub fn rectangle() -> Box<dyn Call> {
     numbers(
         table(),
         inputs,
-        |cells, [north, south, west, east]| proved::rectangle(cells, north, south, west, east),
-        |cells, [north, south, west, east]| plain::rectangle(cells, north, south, west, east),
+        |table, [north, south, west, east]| proved::rectangle(&table.blocks, north, south, west, east),
+        |table, [north, south, west, east]| plain::rectangle(&table.rows, north, south, west, east),
     )
 }
 
@@ -170,7 +180,7 @@ impl Call for DigestRow {
     }
 }
 
-/// The raster stands here twice, since one side takes a row as bits and the other as floats.
+/// The raster stands here twice, since one side takes a row as bits and the other as floats; so does the table.
 struct BuildRow {
     raster: Vec<u32>,
     floats: Vec<f32>,
@@ -179,11 +189,10 @@ struct BuildRow {
     acc: Vec<f64>,
     corr: Vec<f64>,
     coarse: Vec<f64>,
-    table: Vec<f64>,
+    table: Table,
     digest: u64,
 }
 
-/// Half of the cells are populated, and some have the mark.
 /// Of eight cells, in any order: one unknown, three `empty` and four populated.
 pub fn build_row(empty: [f32; 3]) -> Box<dyn Call> {
     let mut r = Random(7);
@@ -194,6 +203,7 @@ pub fn build_row(empty: [f32; 3]) -> Box<dyn Call> {
             _ => between(&mut r, 0.0, 1000.0) as f32,
         })
         .collect();
+    let rows = vec![0.0; padded_len(&plain::wide_grid())];
     Box::new(BuildRow {
         raster: floats.iter().map(|x| x.to_bits()).collect(),
         floats,
@@ -202,7 +212,7 @@ pub fn build_row(empty: [f32; 3]) -> Box<dyn Call> {
         acc: vec![0.0; WIDE + 1],
         corr: vec![0.0; WIDE + 1],
         coarse: vec![0.0; WIDE + 1],
-        table: vec![0.0; 3 * (WIDE + 1)],
+        table: Table { blocks: blocks::to_blocks(&plain::wide_grid(), &rows), rows },
         digest: 0,
     })
 }
@@ -213,12 +223,11 @@ impl Call for BuildRow {
         self.acc.fill(0.0);
         self.corr.fill(0.0);
         self.digest = FNV_OFFSET_BASIS;
-        let mut lent = Buffers {
-            acc: &mut self.acc,
-            corr: &mut self.corr,
-            coarse: &mut self.coarse,
-            table: &mut self.table,
+        let table = match side {
+            Side::Proved => &mut self.table.blocks,
+            Side::Rust => &mut self.table.rows,
         };
+        let mut lent = Buffers { acc: &mut self.acc, corr: &mut self.corr, coarse: &mut self.coarse, table };
         match side {
             Side::Proved => {
                 for row in self.raster.chunks_exact(WIDE) {
@@ -239,11 +248,14 @@ impl Call for BuildRow {
         self.raster.len()
     }
 
-    /// After a first turn, the row of the side that was not asked has zeros, so either side's is the two together.
+    /// After a first turn, the row and the table of the side that was not asked have zeros, so either side's are the two
+    /// together.
     fn left(&self) -> Vec<u64> {
         let row = self.row.iter().zip(&self.float_row).map(|(cell, float)| u64::from(cell | float.to_bits()));
-        let lent = [&self.acc, &self.corr, &self.coarse, &self.table];
-        [self.digest].into_iter().chain(row).chain(lent.into_iter().flat_map(|part| bits(part))).collect()
+        let rows = blocks::to_blocks(&plain::wide_grid(), &self.table.rows);
+        let table = bits(&self.table.blocks).zip(bits(&rows)).map(|(proved, rust)| proved | rust);
+        let lent = [&self.acc, &self.corr, &self.coarse].into_iter().flat_map(|part| bits(part));
+        [self.digest].into_iter().chain(row).chain(lent).chain(table.collect::<Vec<u64>>()).collect()
     }
 }
 
@@ -279,13 +291,22 @@ impl Call for Kernel {
 
 struct Card {
     card: Vec<u8>,
+    /// What is paid for: the card, or its circles.
+    calls: usize,
     out: Vec<u8>,
     length: usize,
 }
 
-/// The dearest card. No text is longer than `out`.
+/// The dearest card of one row. No text is longer than `out`.
 pub fn card() -> Box<dyn Call> {
-    Box::new(Card { card: generate_cards::card(1, 0, Kind::Worst), out: vec![0; 150_000], length: 0 })
+    let card = generate_cards::card(1, 0, Kind::Wide);
+    Box::new(Card { card, calls: 1, out: vec![0; 150_000], length: 0 })
+}
+
+/// A few circles of the dearest card, which has 3,324 and takes seconds.
+pub fn worst_circle() -> Box<dyn Call> {
+    let card = generate_large::worst(&mut Random(8), WORST_CIRCLES);
+    Box::new(Card { card, calls: WORST_CIRCLES, out: vec![0; 1000], length: 0 })
 }
 
 impl Call for Card {
@@ -297,7 +318,7 @@ impl Call for Card {
     }
 
     fn calls(&self) -> usize {
-        1
+        self.calls
     }
 
     fn left(&self) -> Vec<u64> {

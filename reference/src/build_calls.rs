@@ -1,10 +1,11 @@
 // Calls 50 to 52: a start, a row and a finish, each on the builder and the buffers that it is given.
 use crate::calls::{one, shown, six, Answer};
 use crate::grid_calls::{fields, grid};
+use crate::in_blocks;
 use crate::raster::CellTallies;
-use crate::refusals::{self, Refusal};
+use crate::refusals::Refusal;
 use crate::table::{Buffers, Builder, Decimation};
-use crate::table_calls::{cells_of, patterns_of};
+use crate::table_calls::{cells_of, floats_of, patterns_of};
 use crate::words::{lent, list, Arguments};
 
 /// The buffers that a build is lent: accumulator, corrections, coarse row, table.
@@ -19,7 +20,7 @@ impl Lent {
 }
 
 pub fn lent_by(call: &[u64]) -> Lent {
-    Lent([1, 2, 3, 4].map(|k| lent(call, k).iter().map(|&bits| f64::from_bits(bits)).collect()))
+    Lent([1, 2, 3, 4].map(|k| floats_of(lent(call, k))))
 }
 
 fn left(lent: Lent) -> Answer {
@@ -30,7 +31,7 @@ pub fn start(call: &[u64]) -> Answer {
     let words = &mut Arguments(list(call, 0));
     let (source, factor, nodata) = (grid(words), words.next() as u32, words.next() as u32);
     let mut lent = lent_by(call);
-    let started = refusals::start(source, factor, nodata, &mut lent.buffers());
+    let started = in_blocks::start(source, factor, nodata, &mut lent.buffers());
     [given(started), left(lent)].concat()
 }
 
@@ -38,14 +39,14 @@ pub fn row(call: &[u64]) -> Answer {
     let mut builder = builder(list(call, 0));
     let mut lent = lent_by(call);
     let mut cells = cells_of(self::lent(call, 5));
-    let answer = refusals::build_row(&mut builder, &mut cells, &mut lent.buffers());
+    let answer = in_blocks::build_row(&mut builder, &mut cells, &mut lent.buffers());
     [given(answer.map(|()| builder)), patterns_of(&cells), left(lent)].concat()
 }
 
 /// A finish is lent nothing that it could change.
 pub fn finish(call: &[u64]) -> Answer {
     let mut lent = lent_by(call);
-    match refusals::finish(&builder(list(call, 0)), &lent.buffers()) {
+    match in_blocks::finish(&builder(list(call, 0)), &mut lent.buffers()) {
         Ok(t) => {
             // A built table has no nodata and no rows.
             let (decimation, digest, tallies) = (t.decimation, t.digest, t.tallies);

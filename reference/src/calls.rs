@@ -51,6 +51,7 @@ pub fn answer(number: u64, call: &[u64]) -> Answer {
         0x51 => build_calls::row(call),
         0x52 => build_calls::finish(call),
         0x60 => table_calls::populations(call),
+        0x63 | 0x64 => table_calls::map(number, call),
         0x70 => circle_calls::kernel(call),
         0x80 => circle_calls::circles(call),
         _ => six(short_answer(number, &mut Arguments(call))),

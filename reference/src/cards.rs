@@ -4,10 +4,12 @@
 #![allow(dead_code)]
 
 mod answer_card;
+mod blocks;
 mod card_text;
 mod circle;
 mod compare_cards;
 mod generate_cards;
+mod generate_large;
 mod generate_sections;
 mod generate_shares;
 mod geodesy;
@@ -23,6 +25,7 @@ mod share_counts;
 mod shares;
 mod stand_ins;
 mod table;
+mod table_counts;
 
 use answer_card::answer;
 use generate_cards::Kind;

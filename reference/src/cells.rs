@@ -1,7 +1,7 @@
 // What the infinities and NaNs of a list's rows are tallied as, and which builders' tallies do not add up.
 use crate::build_calls::{builder, lent_by};
+use crate::in_blocks;
 use crate::raster::CellTallies;
-use crate::refusals;
 use crate::table_calls::cells_of;
 use crate::words::{lent, list, Arguments};
 use std::collections::BTreeMap;
@@ -22,7 +22,7 @@ fn sanitised(number: u64, call: &[u64]) -> Option<(u32, Vec<u32>)> {
         0x40 => Some((Arguments(words).next() as u32, patterns(lent(call, 1)))),
         0x51 => {
             let (mut b, row) = (builder(words), lent(call, 5));
-            let taken = refusals::build_row(&mut b, &mut cells_of(row), &mut lent_by(call).buffers());
+            let taken = in_blocks::build_row(&mut b, &mut cells_of(row), &mut lent_by(call).buffers());
             taken.ok().map(|()| (b.nodata, patterns(row)))
         }
         _ => None,
@@ -57,9 +57,9 @@ fn count_tallies(counts: &mut Counts, number: u64, call: &[u64]) {
         let (mut b, mut buffers) = (b, lent_by(call));
         b.tallies = tallies;
         if number == 0x52 {
-            return refusals::finish(&b, &buffers.buffers()).err();
+            return in_blocks::finish(&b, &mut buffers.buffers()).err();
         }
-        refusals::build_row(&mut b, &mut cells_of(lent(call, 5)), &mut buffers.buffers()).err()
+        in_blocks::build_row(&mut b, &mut cells_of(lent(call, 5)), &mut buffers.buffers()).err()
     };
     let cells = u64::from(b.rows) * u64::from(b.decimation.source.width);
     let right = CellTallies { nodata: cells, ..CellTallies::default() };

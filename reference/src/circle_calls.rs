@@ -2,7 +2,9 @@
 use crate::calls::{given, number, one, six, two, Answer};
 use crate::grid::{Col, Row};
 use crate::grid_calls::grid;
+use crate::in_blocks::rows_of;
 use crate::refusals::{self, KernelFields};
+use crate::table_calls::floats_of;
 use crate::words::{lent, list, Arguments};
 
 /// A list of half-widths.
@@ -32,7 +34,7 @@ pub fn circles(call: &[u64]) -> Answer {
         north: words.next() as u32,
         count: words.next() as u32,
     };
-    let cells: Vec<f64> = lent(call, 1).iter().map(|&bits| f64::from_bits(bits)).collect();
+    let cells = rows_of(&g, &floats_of(lent(call, 1)));
     let half_widths = halves(call, 2);
     let questions = list(call, 3).chunks_exact(5);
     let mut answer = one(questions.len() as u64);

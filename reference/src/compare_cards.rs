@@ -4,6 +4,7 @@ use crate::generate_cards::{card_and_shares, Kind};
 use crate::progress::Progress;
 use crate::section_counts::SectionCounts;
 use crate::share_counts::ShareCounts;
+use crate::table_counts::TableCounts;
 use crate::{card_text, made, shares};
 use std::collections::BTreeMap;
 use std::fs::{self, File};
@@ -22,12 +23,14 @@ struct Verdicts {
     /// Cards with a count that is infinite or no number.
     not_finite: u64,
     sections: SectionCounts,
+    tables: TableCounts,
 }
 
 impl Verdicts {
     fn add(&mut self, card: &[u8], text: &str) {
         let refused = header(card).err();
         self.sections.add(card, refused);
+        self.tables.add(card, refused);
         if let Some(refused) = refused {
             *self.refused.entry(refused).or_default() += 1;
             return;
@@ -63,6 +66,7 @@ impl Verdicts {
             self.not_finite
         );
         self.sections.print();
+        self.tables.print();
     }
 }
 

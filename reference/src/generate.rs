@@ -283,7 +283,7 @@ pub fn bits<const N: usize>(floats: [f64; N]) -> Vec<u64> {
 }
 
 /// The modules and the numbers of their calls.
-pub const MODULES: [(&str, RangeInclusive<u64>); 9] = [
+pub const MODULES: [(&str, RangeInclusive<u64>); 10] = [
     ("float", 0x01..=0x0c),
     ("digest", 0x10..=0x12),
     ("geodesy", 0x20..=0x2e),
@@ -291,6 +291,7 @@ pub const MODULES: [(&str, RangeInclusive<u64>); 9] = [
     ("raster", 0x40..=0x40),
     ("build", 0x50..=0x50),
     ("rectangle", 0x60..=0x62),
+    ("layout", 0x63..=0x64),
     ("kernel", 0x70..=0x70),
     ("circle", 0x80..=0x80),
 ];
@@ -305,15 +306,17 @@ pub fn numbers_of(module: &str) -> Option<Vec<u64>> {
     Some(numbers).filter(|numbers| !numbers.is_empty())
 }
 
-/// Call `index` of a seed's list, of one of the numbers given; 50 is a whole build, of several calls.
+/// Call `index` of a seed's list, of one of the numbers given; 50 is a whole build, of several calls, and 63 and 64 may be the
+/// way there and back.
 pub fn calls(seed: u64, index: u64, numbers: &[u64]) -> Vec<Vec<u64>> {
     let start = Random(seed).word();
     let mut random = Random(start.wrapping_add(index.wrapping_mul(0xd1b5_4a32_d192_ed03)));
     let number = numbers[random.below(numbers.len() as u64) as usize];
-    if number == 0x50 {
-        return random.build();
+    match number {
+        0x50 => random.build(),
+        0x63 | 0x64 => random.map_calls(number),
+        _ => vec![call_of(number, &mut random)],
     }
-    vec![call_of(number, &mut random)]
 }
 
 fn call_of(number: u64, random: &mut Random) -> Vec<u64> {

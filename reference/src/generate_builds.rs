@@ -1,11 +1,13 @@
 // Builds: a walk of starts, rows and finishes, each call on what the Rust's answer to the one before left.
+use crate::blocks::payload_len;
 use crate::build_calls::{builder, Lent};
 use crate::generate::Random;
 use crate::generate_grids::grid_words;
+use crate::generate_layouts::wrong_payloads;
 use crate::generate_tables::Cells;
 use crate::grid::Grid;
-use crate::refusals;
-use crate::table::{padded_len, Builder, Decimation};
+use crate::in_blocks;
+use crate::table::{Builder, Decimation};
 use crate::table_calls::cells_of;
 use crate::words::listed;
 use std::array;
@@ -38,7 +40,7 @@ impl Walk {
         let words = [&self.builder[..6], &[factor, nodata]].concat();
         self.push(0x50, &words, &[]);
         let source = builder(&self.builder).decimation.source;
-        if let Ok(b) = refusals::start(source, factor as u32, nodata as u32, &mut self.lent.buffers()) {
+        if let Ok(b) = in_blocks::start(source, factor as u32, nodata as u32, &mut self.lent.buffers()) {
             self.builder = words_of(b);
         }
     }
@@ -46,13 +48,24 @@ impl Walk {
     pub fn row(&mut self, row: &[u64]) {
         self.push(0x51, &self.builder.clone(), row);
         let mut b = builder(&self.builder);
-        if refusals::build_row(&mut b, &mut cells_of(row), &mut self.lent.buffers()).is_ok() {
+        if in_blocks::build_row(&mut b, &mut cells_of(row), &mut self.lent.buffers()).is_ok() {
             self.builder = words_of(b);
         }
     }
 
     pub fn finish(&mut self) {
         self.push(0x52, &self.builder.clone(), &[]);
+    }
+
+    /// The builder with so many rows in, all of them unknown.
+    pub fn stand_at(&mut self, rows: u32) {
+        self.builder[14] = u64::from(rows);
+        self.builder[16..].fill(0);
+        self.builder[16] = u64::from(rows) * self.builder[0];
+    }
+
+    pub fn table_mut(&mut self) -> &mut [f64] {
+        &mut self.lent.0[3]
     }
 
     /// One call with buffers of other lengths, cut or filled up. The walk goes on with those that it had.
@@ -66,12 +79,45 @@ impl Walk {
     }
 }
 
-/// Lengths of which the set's are wrong: shorter by one, longer by one, or 0. Bit k of the set is for length k.
-pub fn wrong_lengths(right: [usize; 4], set: u64, mut kind: impl FnMut() -> u64) -> [usize; 4] {
-    array::from_fn(|k| match (set >> k & 1, right[k]) {
-        (0, length) => length,
-        (_, length) => [length - 1, length + 1, 0][kind() as usize],
-    })
+/// The lengths that a build asks: accumulator, corrections, coarse row, table; and others that its table may be lent with.
+#[derive(Clone, Copy)]
+pub struct Lengths {
+    pub right: [usize; 4],
+    tables: [usize; 7],
+}
+
+/// The places of a table over 40 columns and 24 rows, the most that a build asks here unless its grid was spoiled.
+const LONGEST: u128 = 1536;
+
+impl Lengths {
+    /// A table that would be longer is lent as one block.
+    pub fn of(source: &Grid, coarse: &Grid) -> Self {
+        let small = Grid { width: 1, height: 1, ..*coarse };
+        let table = if payload_len(coarse) <= LONGEST { coarse } else { &small };
+        let [wide, narrow] = [source, coarse].map(|g| g.width.min(100) as usize + 1);
+        let right = [wide, wide, narrow, payload_len(table) as usize];
+        Self { right, tables: wrong_payloads(table) }
+    }
+
+    /// Those of the set are wrong: shorter by one, longer by one, or 0, and the table's in a way of its own too. Bit k of the set
+    /// is for length k.
+    pub fn wrong(self, set: u64, mut kind: impl FnMut() -> u64) -> [usize; 4] {
+        array::from_fn(|k| match (set >> k & 1, self.right[k]) {
+            (0, length) => length,
+            (_, _) if k == 3 => self.tables[kind() as usize],
+            (_, length) => [length - 1, length + 1, 0][kind() as usize % 3],
+        })
+    }
+}
+
+/// What a build goes by.
+struct Plan {
+    source: Grid,
+    coarse: Grid,
+    factor: u64,
+    nodata: u64,
+    cells: Cells,
+    asked: Lengths,
 }
 
 fn words_of(b: Builder) -> Vec<u64> {
@@ -80,17 +126,11 @@ fn words_of(b: Builder) -> Vec<u64> {
     [grids, numbers.to_vec(), vec![b.digest], b.tallies.fields().to_vec()].concat()
 }
 
-/// The lengths that a build asks: accumulator, corrections, coarse row, table.
-fn lengths(g: &Grid, coarse: &Grid) -> [usize; 4] {
-    let wide = g.width.min(100) as usize + 1;
-    [wide, wide, coarse.width.min(100) as usize + 1, padded_len(coarse).min(1200)]
-}
-
 impl Random {
     /// A source grid and a factor, which most often divides both of its dimensions.
     fn source(&mut self) -> (Grid, u64) {
         let factor = if self.chance(3) { 1 } else { 1 + self.below(12) };
-        let (columns, rows) = (1 + self.below(40 / factor), 1 + self.below(24 / factor));
+        let (columns, rows) = (self.side(24 / factor), self.side(18 / factor));
         let mut size = [columns * factor, rows * factor];
         if self.chance(8) {
             size = [1 + self.below(40), 1 + self.below(24)];
@@ -114,25 +154,26 @@ impl Random {
         }
     }
 
-    /// Wrong lengths: any set of them, each one shorter, one longer or 0; or one that is another's or any.
-    fn wrong_lengths(&mut self, right: [usize; 4]) -> [usize; 4] {
+    /// Wrong lengths: any set of them, or one that is another's or any.
+    fn wrong_lengths(&mut self, asked: Lengths) -> [usize; 4] {
         if self.chance(8) {
-            let mut lengths = right;
+            let mut lengths = asked.right;
+            let [wide, _, narrow, table] = lengths;
             let other = self.below(100) as usize;
-            lengths[self.below(4) as usize] = self.pick(&[right[0], right[2], right[3], other]);
+            lengths[self.below(4) as usize] = self.pick(&[wide, narrow, table, other]);
             return lengths;
         }
         let set = 1 + self.below(15);
-        wrong_lengths(right, set, || self.below(3))
+        asked.wrong(set, || self.below(7))
     }
 
     /// A start, a row or a finish with wrong lengths.
-    fn lend_wrongly(&mut self, walk: &mut Walk, right: [usize; 4], start: [u64; 2], row: &[u64]) {
-        let lengths = self.wrong_lengths(right);
-        let [factor, nodata] = start;
+    fn lend_wrongly(&mut self, walk: &mut Walk, plan: &Plan) {
+        let row = self.build_row(plan);
+        let lengths = self.wrong_lengths(plan.asked);
         match self.below(3) {
-            0 => walk.lending(lengths, |walk| walk.start(factor, nodata)),
-            1 => walk.lending(lengths, |walk| walk.row(row)),
+            0 => walk.lending(lengths, |walk| walk.start(plan.factor, plan.nodata)),
+            1 => walk.lending(lengths, |walk| walk.row(&row)),
             _ => walk.lending(lengths, Walk::finish),
         }
     }
@@ -197,73 +238,83 @@ impl Random {
     }
 
     /// A row of the length that is asked, or of another.
-    fn build_row(&mut self, g: &Grid, cells: Cells, nodata: u64) -> Vec<u64> {
-        let width = u64::from(g.width).min(300);
+    fn build_row(&mut self, plan: &Plan) -> Vec<u64> {
+        let width = u64::from(plan.source.width).min(300);
         let length = if self.chance(16) {
             self.pick(&[0, 1, width.saturating_sub(1), width + 1, 2 * width])
         } else {
             width
         };
-        self.row_of(cells, nodata, length)
+        self.row_of(plan.cells, plan.nodata, length)
+    }
+
+    fn plan(&mut self) -> Plan {
+        let (source, factor) = self.source();
+        let coarse = Decimation::new(source, factor as u32).map_or(source, |d| d.grid);
+        let asked = Lengths::of(&source, &coarse);
+        Plan { source, coarse, factor, nodata: self.nodata(), cells: self.cells(), asked }
+    }
+
+    /// What may come ahead of a row.
+    fn ahead_of_row(&mut self, walk: &mut Walk, plan: &Plan) {
+        match self.below(48) {
+            0 => walk.finish(),
+            1 | 5 => {
+                if self.chance(2) {
+                    self.forge(walk, &plan.source);
+                } else {
+                    self.sign_zeros(walk);
+                }
+                walk.row(&self.build_row(plan));
+                walk.finish();
+                let right = [grid_words(&plan.source), grid_words(&plan.coarse), vec![plan.factor]].concat();
+                walk.builder[..13].copy_from_slice(&right);
+            }
+            2 => self.jump(walk, &plan.source),
+            3 => walk.start(plan.factor, plan.nodata),
+            4 => walk.calls.push(vec![0x53 + self.below(3)]),
+            9 => {
+                let kept = walk.builder.clone();
+                self.wrap(walk);
+                walk.row(&self.build_row(plan));
+                walk.finish();
+                walk.builder = kept;
+            }
+            6..=8 => self.lend_wrongly(walk, plan),
+            // The rows that follow leave what is past the edge.
+            10..=13 => self.fill_edge(&plan.coarse, walk.table_mut()),
+            _ => {}
+        }
+    }
+
+    /// What may come after the last row.
+    fn after_rows(&mut self, walk: &mut Walk, plan: &Plan) {
+        match self.below(8) {
+            0 => walk.row(&self.build_row(plan)),
+            1 => self.jump(walk, &plan.source),
+            2 => self.forge(walk, &plan.source),
+            3 | 4 => self.lend_wrongly(walk, plan),
+            _ => walk.finish(),
+        }
     }
 
     /// A start, the rows with other calls among them, a finish, and what comes after it.
     pub fn build(&mut self) -> Vec<Vec<u64>> {
-        let (g, factor) = self.source();
-        let coarse = Decimation::new(g, factor as u32).map_or(g, |d| d.grid);
-        let right = lengths(&g, &coarse);
-        let lent = if self.chance(16) { self.wrong_lengths(right) } else { right };
-        let mut walk = Walk::new(&g, self.fill(), lent);
-        let (nodata, cells) = (self.nodata(), self.cells());
+        let plan = self.plan();
+        let lent = if self.chance(16) { self.wrong_lengths(plan.asked) } else { plan.asked.right };
+        let mut walk = Walk::new(&plan.source, self.fill(), lent);
         if !self.chance(32) {
-            walk.start(factor, nodata);
+            walk.start(plan.factor, plan.nodata);
         }
-        for _ in 0..g.height.min(24) {
-            match self.below(48) {
-                0 => walk.finish(),
-                1 | 5 => {
-                    if self.chance(2) {
-                        self.forge(&mut walk, &g);
-                    } else {
-                        self.sign_zeros(&mut walk);
-                    }
-                    walk.row(&self.build_row(&g, cells, nodata));
-                    walk.finish();
-                    let right = [grid_words(&g), grid_words(&coarse), vec![factor]].concat();
-                    walk.builder[..13].copy_from_slice(&right);
-                }
-                2 => self.jump(&mut walk, &g),
-                3 => walk.start(factor, nodata),
-                4 => walk.calls.push(vec![0x53 + self.below(3)]),
-                9 => {
-                    let kept = walk.builder.clone();
-                    self.wrap(&mut walk);
-                    walk.row(&self.build_row(&g, cells, nodata));
-                    walk.finish();
-                    walk.builder = kept;
-                }
-                6..=8 => {
-                    let row = self.build_row(&g, cells, nodata);
-                    self.lend_wrongly(&mut walk, right, [factor, nodata], &row);
-                }
-                _ => {}
-            }
-            walk.row(&self.build_row(&g, cells, nodata));
+        for _ in 0..plan.source.height.min(24) {
+            self.ahead_of_row(&mut walk, &plan);
+            walk.row(&self.build_row(&plan));
         }
         for _ in 0..self.below(3) {
-            walk.row(&self.build_row(&g, cells, nodata));
+            walk.row(&self.build_row(&plan));
         }
         for _ in 0..self.below(4) {
-            match self.below(8) {
-                0 => walk.row(&self.build_row(&g, cells, nodata)),
-                1 => self.jump(&mut walk, &g),
-                2 => self.forge(&mut walk, &g),
-                3 | 4 => {
-                    let row = self.build_row(&g, cells, nodata);
-                    self.lend_wrongly(&mut walk, right, [factor, nodata], &row);
-                }
-                _ => walk.finish(),
-            }
+            self.after_rows(&mut walk, &plan);
         }
         // A call that is cut short.
         if let Some(mut call) = walk.calls.last().cloned().filter(|_| self.chance(10)) {

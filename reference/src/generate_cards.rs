@@ -1,4 +1,5 @@
 // Cards, good and damaged. Each depends on the seed and its own number alone.
+use crate::generate_large;
 use crate::generate_sections;
 use crate::generate_shares::{self, Shares};
 use crate::make_card::{placed, usual};
@@ -68,14 +69,28 @@ impl Layout {
     }
 }
 
+/// A side of a coarse grid: from 1 to `most`, or beside a multiple of 8, where a block of its table ends.
+pub fn side(r: &mut Random, most: u64) -> u32 {
+    if r.one_in(5) {
+        r.of(&[6, 7, 8, 9, 10, 15, 16, 17])
+    } else {
+        r.below(most) as u32 + 1
+    }
+}
+
 /// A layout that most of the checks pass.
 pub fn layout(r: &mut Random) -> Layout {
     let factor = r.of(&[1, 1, 1, 2, 2, 3, 4, 5, 6]);
-    let small = |r: &mut Random, most: u64| (r.below(most) + 1) as u32 * factor;
-    let (mut width, mut height) = (small(r, 12), small(r, 8));
+    let (mut width, mut height) = (side(r, 12), side(r, 8));
     if r.one_in(12) {
-        (width, height) = (small(r, 600 / u64::from(factor)), r.below(10) as u32 * factor + factor);
+        (width, height) = (r.below(600 / u64::from(factor)) as u32 + 1, r.below(10) as u32 + 1);
     }
+    layout_of(r, [width * factor, height * factor], factor)
+}
+
+/// Of this size and factor.
+pub fn layout_of(r: &mut Random, size: [u32; 2], factor: u32) -> Layout {
+    let [width, height] = size;
     let closes = !r.one_in(8);
     let mut lon_step = if closes { 360.0 / f64::from(width) } else { 300.0 / f64::from(width) };
     if r.one_in(4) {
@@ -84,7 +99,7 @@ pub fn layout(r: &mut Random) -> Layout {
     let lat = if r.one_in(2) { 90.0 } else { 90.0 - r.below(60) as f64 };
     let lat_step = -((lat + 90.0) / f64::from(height)) * r.of(&[1.0, 1.0, 0.5, 0.9]);
     let lon = r.of(&[-180.0, -180.0, 0.0, 179.99, 540.0, -180.00000000000003, 12.5]);
-    Layout { size: [width, height], degrees: [lat, lon, lon_step, lat_step], factor }
+    Layout { size, degrees: [lat, lon, lon_step, lat_step], factor }
 }
 
 /// So many circles, on the grid and one step off it.
@@ -114,14 +129,19 @@ pub fn cells(r: &mut Random, layout: &Layout, nodata: u32) -> Vec<u32> {
 /// A card that most of the checks pass.
 fn good(r: &mut Random) -> Vec<u8> {
     let layout = layout(r);
+    filled(r, &layout)
+}
+
+/// The layout with cells of one kind and up to eight circles.
+pub fn filled(r: &mut Random, layout: &Layout) -> Vec<u8> {
     let nodata = r.of(&NODATA);
-    let cells = cells(r, &layout, nodata);
+    let cells = cells(r, layout, nodata);
     let count = r.below(9);
-    let circles = circles(r, &layout, count);
+    let circles = circles(r, layout, count);
     layout.card(nodata, &cells, &circles)
 }
 
-const WORDS: [u32; 12] = [0, 1, 2, 3, 7, 64, 90, 4095, 4096, 1_048_576, 1_048_577, u32::MAX];
+const WORDS: [u32; 12] = [0, 1, 2, 3, 7, 64, 90, 1023, 1024, 1_048_576, 1_048_577, u32::MAX];
 
 #[rustfmt::skip]
 const FLOATS: [f64; 20] = [
@@ -244,33 +264,22 @@ fn any_float(r: &mut Random) -> f64 {
     }
 }
 
-/// The dearest card: 4,095 columns, one row, and every circle that fits.
-fn worst(r: &mut Random) -> Vec<u8> {
-    let rows: Vec<u8> = (0..4095).flat_map(|_| (r.below(2000) as f32).to_bits().to_le_bytes()).collect();
-    let count = (65_536 - 64 - rows.len()) / 16;
-    let mut circles = Vec::new();
-    for _ in 0..count {
-        circles.extend(0u32.to_le_bytes());
-        circles.extend((r.below(4095) as u32).to_le_bytes());
-        circles.extend((r.below(20_016) as f64).to_le_bytes());
-    }
-    let lon_step = 360.0 / 4095.0;
-    let at = usual(rows.len());
-    placed([4095, 1], [60.0, -180.0, lon_step, -1.0], 0xc61c_3c00, 1, &rows, &circles, at)
-}
-
 #[derive(Clone, Copy)]
 pub enum Kind {
     Good,
     Damaged,
     Random,
+    /// The dearest card, and the dearest of one row.
     Worst,
+    Wide,
     /// Good ones with up to two damages.
     Mixed,
     /// Cells that are shares of a person.
     Shares,
     /// Sections that touch, overlap, contain each other, or lie over the header.
     Sections,
+    /// Tables at the limit of 27, and sizes beside a multiple of 8.
+    Tables,
 }
 
 impl Kind {
@@ -280,9 +289,11 @@ impl Kind {
             "damaged" => Some(Self::Damaged),
             "random" => Some(Self::Random),
             "worst" => Some(Self::Worst),
+            "wide" => Some(Self::Wide),
             "mixed" => Some(Self::Mixed),
             "shares" => Some(Self::Shares),
             "sections" => Some(Self::Sections),
+            "tables" => Some(Self::Tables),
             _ => None,
         }
     }
@@ -299,8 +310,10 @@ pub fn card_and_shares(seed: u64, number: u64, kind: Kind) -> (Vec<u8>, Option<S
     let card = match kind {
         Kind::Good => good(&mut r),
         Kind::Random => random(&mut r),
-        Kind::Worst => worst(&mut r),
+        Kind::Worst => generate_large::worst(&mut r, usize::MAX),
+        Kind::Wide => generate_large::wide(&mut r),
         Kind::Sections => generate_sections::card(&mut r),
+        Kind::Tables => generate_large::card(&mut r),
         Kind::Damaged | Kind::Mixed => {
             let mut card = good(&mut r);
             let damages = if matches!(kind, Kind::Damaged) { 1 + r.below(3) } else { r.below(3) };

@@ -1,6 +1,8 @@
 // Arguments of the calls on rows, rectangles, kernels and circles.
+use crate::blocks::{self, payload_len};
 use crate::generate::{Random, HALVES};
 use crate::generate_grids::grid_words;
+use crate::generate_layouts::wrong_payloads;
 use crate::geodesy::{great_circle_km, LatLon};
 use crate::grid::{Grid, Row};
 use crate::refusals::{self, KernelFields};
@@ -117,17 +119,26 @@ impl Random {
 
     // ---- tables and rectangles
 
-    /// A table over the grid: of a raster that was built, or of any floats.
+    /// A table over the grid, in blocks: of a raster that was built, or of any floats. Of those that were built, half have
+    /// something else than +0.0 past the edge.
     fn table(&mut self, g: &Grid) -> Vec<u64> {
-        let length = padded_len(g);
-        let wide = g.width as usize + 1;
-        let mut table = vec![0.0; length];
-        if length > 8192 {
-            return vec![];
-        }
         if self.chance(4) {
-            return (0..length).map(|_| self.float().to_bits()).collect();
+            return (0..payload_len(g)).map(|_| self.float().to_bits()).collect();
         }
+        let mut table = blocks::to_blocks(g, &self.built_rows(g));
+        if self.chance(2) {
+            self.fill_edge(g, &mut table);
+        }
+        if self.chance(8) {
+            self.sprinkle(&mut table);
+        }
+        table.into_iter().map(f64::to_bits).collect()
+    }
+
+    /// A table in row layout.
+    fn built_rows(&mut self, g: &Grid) -> Vec<f64> {
+        let wide = g.width as usize + 1;
+        let mut table = vec![0.0; padded_len(g)];
         let (mut acc, mut corr, mut coarse) = (vec![0.0; wide], vec![0.0; wide], vec![0.0; wide]);
         let mut lent = Buffers { acc: &mut acc, corr: &mut corr, coarse: &mut coarse, table: &mut table };
         let cells = if self.chance(6) { Cells::Any } else { self.cells() };
@@ -138,7 +149,7 @@ impl Random {
                 refusals::build_row(&mut builder, &mut row, &mut lent).ok();
             }
         }
-        table.into_iter().map(f64::to_bits).collect()
+        table
     }
 
     /// The list with one element more or less, or none.
@@ -150,14 +161,9 @@ impl Random {
         }
     }
 
-    /// Of a table that a list holds.
-    fn table_size(&mut self) -> (u32, u32) {
-        match self.below(16) {
-            0 => (1, self.size(4000)),
-            1 => (self.size(4000), 1),
-            2 => (self.size(2000), 1 + self.below(3) as u32),
-            _ => (1 + self.below(40) as u32, 1 + self.below(24) as u32),
-        }
+    /// The table with a length that is not its payload's, most often.
+    fn cut_table(&mut self, g: &Grid, table: &mut Vec<u64>) {
+        table.resize(self.pick(&wrong_payloads(g)), 0x3ff0_0000_0000_0000);
     }
 
     fn mostly_below(&mut self, limit: u32) -> u64 {
@@ -173,8 +179,8 @@ impl Random {
         let (width, height) = self.table_size();
         let mut g = self.made_grid(width, height);
         let mut cells = self.table(&g);
-        if self.chance(16) {
-            self.cut(&mut cells);
+        if self.chance(10) {
+            self.cut_table(&g, &mut cells);
         }
         if self.chance(16) {
             self.spoil(&mut g);
@@ -339,8 +345,8 @@ impl Random {
         if self.chance(8) {
             self.spoil_kernel(&mut kernel, &mut half_widths);
         }
-        if self.chance(16) {
-            self.cut(&mut cells);
+        if self.chance(10) {
+            self.cut_table(&g, &mut cells);
         }
         if self.chance(24) {
             self.spoil(&mut g);

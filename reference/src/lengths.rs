@@ -1,8 +1,10 @@
 // How many calls of a list are refused for a length, and which of the four were wrong. Such a call changes nothing.
+use crate::blocks::payload_len;
 use crate::build_calls::{builder, lent_by, Lent};
 use crate::grid_calls::grid;
+use crate::in_blocks;
 use crate::refusals::{self, Refusal};
-use crate::table::{padded_len, Decimation};
+use crate::table::Decimation;
 use crate::table_calls::cells_of;
 use crate::words::{lent, list, Arguments};
 use std::collections::BTreeMap;
@@ -19,18 +21,18 @@ fn refused(number: u64, call: &[u64], buffers: &mut Lent) -> Option<(Refusal, De
     if number == 0x50 {
         let words = &mut Arguments(words);
         let (source, factor, nodata) = (grid(words), words.next() as u32, words.next() as u32);
-        let refusal = refusals::start(source, factor, nodata, &mut buffers.buffers()).err()?;
+        let refusal = in_blocks::start(source, factor, nodata, &mut buffers.buffers()).err()?;
         return Some((refusal, refusals::new_decimation(source, factor).ok()?, None));
     }
     let mut b = builder(words);
     let (d, rows) = (b.decimation, b.rows);
     if number == 0x52 {
-        let refusal = refusals::finish(&b, &buffers.buffers()).err()?;
+        let refusal = in_blocks::finish(&b, &mut buffers.buffers()).err()?;
         return Some((refusal, d, (rows < d.source.height).then_some(14)));
     }
     let row = lent(call, 5);
     let mut cells = cells_of(row);
-    let refusal = refusals::build_row(&mut b, &mut cells, &mut buffers.buffers()).err()?;
+    let refusal = in_blocks::build_row(&mut b, &mut cells, &mut buffers.buffers()).err()?;
     assert!(cells_of(row).iter().zip(&cells).all(|(x, y)| x.to_bits() == y.to_bits()), "the row was changed");
     let wrong_row = (row.len() != d.source.width as usize).then_some(12);
     Some((refusal, d, if rows == d.source.height { Some(13) } else { wrong_row }))
@@ -52,7 +54,7 @@ pub fn count(counts: &mut Counts, number: u64, call: &[u64]) {
     };
     assert!(before == bits(&buffers), "a buffer was changed");
     let wide = d.source.width as usize + 1;
-    let right = [wide, wide, d.grid.width as usize + 1, padded_len(&d.grid)];
+    let right = [wide, wide, d.grid.width as usize + 1, payload_len(&d.grid) as usize];
     let mut add = |name: String| *counts.entry(name).or_default() += 1;
     add(format!("{number:x} {refusal}"));
     if let Some(later) = later {

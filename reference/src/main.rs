@@ -1,23 +1,29 @@
 // The reference's driver: writes lists of calls and answers them. README.md has the commands.
+mod block_counts;
+mod blocks;
 mod build_calls;
 mod calls;
 mod cells;
 mod circle;
 mod circle_calls;
+mod fetches;
 mod generate;
 mod generate_builds;
 mod generate_grids;
+mod generate_layouts;
 mod generate_sphere;
 mod generate_tables;
 mod geodesy;
 mod grid;
 mod grid_calls;
+mod in_blocks;
 mod kernel;
 mod lengths;
 mod random;
 mod raster;
 mod refusals;
 mod sample;
+mod sample_blocks;
 mod stand_ins;
 mod table;
 mod table_calls;
@@ -37,10 +43,11 @@ fn main() -> ExitCode {
     let done = match arguments[..] {
         ["answer"] => Some(answer()),
         ["sample"] => Some(sample()),
-        ["zero-signs"] => Some(zero_signs()),
-        ["lengths"] => Some(counted(lengths::count)),
-        ["cells"] => Some(counted(cells::count)),
-        ["zeros"] => Some(counted(zeros::count)),
+        ["counts"] => Some(counts()),
+        ["fetches"] => {
+            fetches::print();
+            Some(Ok(()))
+        }
         ["generate", seed, from, count] => generate(seed, from, count, "all"),
         ["generate", seed, from, count, module] => generate(seed, from, count, module),
         _ => None,
@@ -52,9 +59,7 @@ fn main() -> ExitCode {
             ExitCode::FAILURE
         }
         None => {
-            eprintln!(
-                "usage: driver answer | sample | zero-signs | lengths | cells | zeros | generate SEED FROM COUNT [MODULE]"
-            );
+            eprintln!("usage: driver answer | sample | counts | fetches | generate SEED FROM COUNT [MODULE]");
             ExitCode::from(2)
         }
     }
@@ -70,30 +75,28 @@ fn answer() -> io::Result<()> {
     out.flush()
 }
 
-/// Looks at the calls on standard input, to the last whole one.
-fn each_call(mut look: impl FnMut(u64, &[u64])) {
+/// What the calls on standard input, to the last whole one, have of each kind that a counter looks for: a line for each kind,
+/// with the counter's name ahead.
+fn counts() -> io::Result<()> {
+    let (mut signs, mut blocks) = (zero_signs::Counts::new(), block_counts::Counts::default());
+    let [mut lengths, mut cells, mut zeros] = [(); 3].map(|()| BTreeMap::new());
     let mut calls = Reader(BufReader::with_capacity(1 << 16, io::stdin().lock()));
     while let Some((number, words)) = calls.call() {
-        look(number, &words);
+        zero_signs::count(&mut signs, number, &words);
+        lengths::count(&mut lengths, number, &words);
+        cells::count(&mut cells, number, &words);
+        zeros::count(&mut zeros, number, &words);
+        blocks.count(number, &words);
     }
-}
-
-/// For the calls on standard input that compare grids, by number, how many pairs differ in the sign of a zero alone.
-fn zero_signs() -> io::Result<()> {
-    let mut counts = zero_signs::Counts::new();
-    each_call(|number, words| zero_signs::count(&mut counts, number, words));
-    let mut out = io::stdout().lock();
-    counts
-        .into_iter()
-        .try_for_each(|(name, [lat, lon, both, step])| writeln!(out, "{name} {lat} {lon} {both} {step}"))
-}
-
-/// Of the calls on standard input, how many are of each name that `count` knows.
-fn counted(count: impl Fn(&mut BTreeMap<String, u64>, u64, &[u64])) -> io::Result<()> {
-    let mut counts = BTreeMap::new();
-    each_call(|number, words| count(&mut counts, number, words));
-    let mut out = io::stdout().lock();
-    counts.into_iter().try_for_each(|(name, count)| writeln!(out, "{name} {count}"))
+    let mut out = BufWriter::new(io::stdout().lock());
+    for (name, [lat, lon, both, step]) in signs {
+        writeln!(out, "zero-signs {name} {lat} {lon} {both} {step}")?;
+    }
+    let counters = [("lengths", lengths), ("cells", cells), ("zeros", zeros), ("blocks", blocks.by_name)];
+    for (counter, counts) in counters {
+        counts.into_iter().try_for_each(|(name, count)| writeln!(out, "{counter} {name} {count}"))?;
+    }
+    out.flush()
 }
 
 /// The calls of a seed's list from number FROM on, where a build is several; None where the words are no such list.

@@ -1,5 +1,6 @@
 // Document 01's refusals around the reference's calls, in its order. A record may hold anything: one that its maker
-// could not give is refused 22, ahead of all else. A call that is refused changes nothing that it is lent.
+// could not give is refused 22, ahead of all else. A call that is refused changes nothing that it is lent. A table is in row
+// layout here, as the copies have it; `in_blocks.rs` takes it as it is lent.
 use crate::circle;
 use crate::geodesy::{LatBand, LatLon, RadiusKm};
 use crate::grid::{Col, Grid, GridIndexError, LonSpan, Row};
@@ -11,7 +12,7 @@ use crate::table::{
 /// A refusal's number.
 pub type Refusal = u64;
 
-const TABLE_LENGTH: Refusal = 11;
+pub const TABLE_LENGTH: Refusal = 11;
 const ROW_LENGTH: Refusal = 12;
 const ROW_AFTER_LAST: Refusal = 13;
 const FINISH_BEFORE_LAST: Refusal = 14;
@@ -23,7 +24,7 @@ const NO_CELL: Refusal = 23;
 const ACCUMULATOR_LENGTH: Refusal = 29;
 const COARSE_LENGTH: Refusal = 30;
 
-fn unless(fails: bool, number: Refusal) -> Result<(), Refusal> {
+pub fn unless(fails: bool, number: Refusal) -> Result<(), Refusal> {
     if fails {
         Err(number)
     } else {
@@ -43,7 +44,7 @@ pub fn new_grid(g: Grid) -> Result<Grid, Refusal> {
 
 /// A grid that `Grid::new` could give. Its longitude stays as it is: 180 can come of the wrapping, which would take it
 /// to −180 a second time.
-fn made(g: &Grid) -> Result<(), Refusal> {
+pub fn made(g: &Grid) -> Result<(), Refusal> {
     unless(new_grid(*g).is_err() || !(-180.0..=180.0).contains(&g.origin.lon), NOT_ITS_MAKERS)
 }
 

@@ -1,9 +1,11 @@
 // The stored sample: every call at the limits, then some of a seed's list.
+use crate::blocks;
 use crate::generate::{self, bits, numbers_of, HALVES, LIMITS, NANS};
-use crate::generate_builds::{self, Walk};
+use crate::generate_builds::{Lengths, Walk};
 use crate::generate_grids::grid_words;
 use crate::geodesy::LatLon;
 use crate::grid::Grid;
+use crate::sample_blocks;
 use crate::table::FNV_OFFSET_BASIS;
 use crate::words::listed;
 use std::f64::consts::PI;
@@ -25,7 +27,7 @@ pub fn calls() -> Vec<Vec<u64>> {
     }
     calls.extend(pairs());
     calls.extend(points());
-    for number in [0, 0xd, 0xf, 0x13, 0x1f, 0x2f, 0x3d, 0x41, 0x53, 0x63, 0x71, 0x81, u64::MAX] {
+    for number in [0, 0xd, 0xf, 0x13, 0x1f, 0x2f, 0x3d, 0x41, 0x53, 0x65, 0x71, 0x81, u64::MAX] {
         calls.push(vec![number]);
     }
     calls.push(of_lists(0x12, &[&[FNV_OFFSET_BASIS], &[]]));
@@ -35,6 +37,7 @@ pub fn calls() -> Vec<Vec<u64>> {
     calls.extend(odd_cells());
     calls.extend(tallies());
     calls.extend(series_at_zero());
+    calls.extend(sample_blocks::calls());
     for (module, count, longest) in SEEDED {
         let numbers = numbers_of(module).unwrap_or_default();
         let all = (0..).map(|index| generate::calls(1, index, &numbers));
@@ -43,30 +46,31 @@ pub fn calls() -> Vec<Vec<u64>> {
     calls
 }
 
-fn of_lists(number: u64, lists: &[&[u64]]) -> Vec<u64> {
+pub fn of_lists(number: u64, lists: &[&[u64]]) -> Vec<u64> {
     [vec![number], listed(lists)].concat()
 }
 
 /// How many of a seed's list, and the most words of one.
-const SEEDED: [(&str, usize, usize); 9] = [
+const SEEDED: [(&str, usize, usize); 10] = [
     ("float", 200, 60),
     ("digest", 60, 60),
     ("geodesy", 250, 60),
     ("grid", 900, 60),
     ("raster", 250, 28),
-    ("build", 40, 300),
-    ("rectangle", 150, 240),
+    ("build", 30, 900),
+    ("rectangle", 150, 300),
+    ("layout", 40, 300),
     ("kernel", 150, 60),
-    ("circle", 80, 150),
+    ("circle", 60, 300),
 ];
 
-/// Document 01's own example, and the cases that it names.
 /// The grid of document 01's example.
 fn source() -> Grid {
     let origin = LatLon { lat: 90.0, lon: -180.0 };
     Grid { width: 4, height: 2, origin, lon_step: 90.0, lat_step: -90.0 }
 }
 
+/// Document 01's own example, and the cases that it names.
 fn examples() -> Vec<Vec<u64>> {
     let example =
         |width: u64, lon: f64| [vec![width, 2], bits([90.0, lon, 360.0 / width as f64, -90.0])].concat();
@@ -92,8 +96,8 @@ fn examples() -> Vec<Vec<u64>> {
         calls.push([vec![0x30, 1, width], bits([0.0, 0.0, 1.0, -1e-5])].concat());
     }
     // Built at factors 1 and 2, with the calls that are refused on the way; 0 and 3 are refused.
-    for (factor, coarse, table) in [(1, 5, 15), (2, 3, 6), (0, 5, 15), (3, 5, 15)] {
-        let mut walk = Walk::new(&source(), 0x4008_0000_0000_0000, [5, 5, coarse, table]);
+    for (factor, coarse) in [(1, 5), (2, 3), (0, 5), (3, 5)] {
+        let mut walk = Walk::new(&source(), 0x4008_0000_0000_0000, [5, 5, coarse, 64]);
         walk.start(factor, nodata);
         walk.finish();
         walk.row(&rows[0]);
@@ -105,7 +109,8 @@ fn examples() -> Vec<Vec<u64>> {
         walk.finish();
         calls.extend(walk.calls);
     }
-    let table = [0, 0, 0, 0, 0, 0, 1, 3, 6, 10, 0, 6, 8, 11, 15].map(|x| f64::from(x).to_bits());
+    let table = [0, 0, 0, 0, 0, 0, 1, 3, 6, 10, 0, 6, 8, 11, 15].map(f64::from);
+    let table: Vec<u64> = blocks::to_blocks(&source(), &table).into_iter().map(f64::to_bits).collect();
     let questions =
         [[0, 0, 0, 3, 0], [0, 1, 1, 0, 0], [0, 1, 0, 1, 2], [1, 0, 1, 0, 0], [0, 2, 1, 0, 0]].concat();
     calls.push(of_lists(0x60, &[&grid, &table, &[], &questions]));
@@ -140,27 +145,29 @@ fn zeros() -> Vec<Vec<u64>> {
         for k in [1, 2] {
             let numbers = [k, 0, 0, FNV_OFFSET_BASIS, 0, 0, 0, 0, 0];
             let builder = [grid(a, 1), grid(b, k), numbers.to_vec()].concat();
-            let (coarse, table) = (vec![0; 4 / k as usize + 1], vec![0; 15 - 9 * (k as usize - 1)]);
-            calls.push(of_lists(0x51, &[&builder, &[0; 5], &[0; 5], &coarse, &table, &[1, 2, 3, 4]]));
-            calls.push(of_lists(0x52, &[&builder, &[0; 5], &[0; 5], &coarse, &table]));
+            let coarse = vec![0; 4 / k as usize + 1];
+            calls.push(of_lists(0x51, &[&builder, &[0; 5], &[0; 5], &coarse, &[0; 64], &[1, 2, 3, 4]]));
+            calls.push(of_lists(0x52, &[&builder, &[0; 5], &[0; 5], &coarse, &[0; 64]]));
         }
         let words = [grid(a, 1), grid(b, 1), vec![0, 1.0f64.to_bits(), 0, 1]].concat();
-        calls.push(of_lists(0x80, &[&words, &[0; 15], &[0], &columns]));
+        calls.push(of_lists(0x80, &[&words, &[0; 64], &[0], &columns]));
     }
     calls
 }
 
 /// Document 02's C-13: each set of wrong lengths, one shorter, one longer and 0, at a start, a row that is too short, a
-/// finish before the last row and a row after it.
+/// finish before the last row and a row after it. Of the table alone and of all four, the ways of C-16 too.
 fn wrong_lengths() -> Vec<Vec<u64>> {
     let origin = LatLon { lat: 90.0, lon: -180.0 };
     let source = Grid { width: 2, height: 2, origin, lon_step: 180.0, lat_step: -90.0 };
+    let coarse = Grid { width: 1, height: 1, ..source };
     let row = [0x3f80_0000, 0];
     let mut calls = Vec::new();
-    for (factor, right) in [(1, [3, 3, 3, 9]), (2, [3, 3, 2, 4])] {
-        let mut walk = Walk::new(&source, 1, right);
-        let sets =
-            (1..16).flat_map(|set| [0, 1, 2].map(|kind| generate_builds::wrong_lengths(right, set, || kind)));
+    for (factor, grid) in [(1, &source), (2, &coarse)] {
+        let asked = Lengths::of(&source, grid);
+        let mut walk = Walk::new(&source, 1, asked.right);
+        let kinds = |set: u64| 0..if set % 8 == 0 || set == 15 { 5 } else { 3 };
+        let sets = (1..16).flat_map(|set| kinds(set).map(move |kind| asked.wrong(set, || kind)));
         let sets: Vec<[usize; 4]> = sets.collect();
         walk.start(factor, 0);
         sets.iter().for_each(|&lengths| walk.lending(lengths, |walk| walk.start(factor, 0)));
@@ -175,7 +182,6 @@ fn wrong_lengths() -> Vec<Vec<u64>> {
     calls
 }
 
-/// Calls of two or three floats, at the cases that document 01 and the reference name.
 /// +infinity, −infinity, NaNs of either sign with payloads, and the largest number.
 const ODD_CELLS: [u64; 6] = [0x7f80_0000, 0xff80_0000, 0x7f80_0001, 0x7fc0_0000, 0xffc0_0001, 0x7f7f_ffff];
 
@@ -191,9 +197,9 @@ fn odd_cells() -> Vec<Vec<u64>> {
             calls.push(of_lists(0x40, &[&[nodata], &row]));
         }
     }
-    for (factor, right) in [(1, [5, 5, 5, 15]), (2, [5, 5, 3, 6])] {
+    for (factor, coarse) in [(1, 5), (2, 3)] {
         for (place, nodata) in (0..8).flat_map(|place| [(place, 0xc61c_3c00), (place, ODD_CELLS[0])]) {
-            let mut walk = Walk::new(&source(), 1, right);
+            let mut walk = Walk::new(&source(), 1, [5, 5, coarse, 64]);
             let mut cells = [row(0), row(4)].concat();
             cells[place] = ODD_CELLS[0];
             walk.start(factor, nodata);
@@ -226,7 +232,7 @@ fn tallies() -> Vec<Vec<u64>> {
     let lists = |tallies: &[u64; 5], number: u64| {
         let builder = [&grid[..], &grid, &[1, 0xc61c_3c00, 1, FNV_OFFSET_BASIS], tallies].concat();
         let row: &[u64] = &[0x3f80_0000; 4];
-        let lists = [&builder[..], &[0; 5], &[0; 5], &[0; 5], &[0; 15], row];
+        let lists = [&builder[..], &[0; 5], &[0; 5], &[0; 5], &[0; 64], row];
         of_lists(number, &lists[..if number == 0x51 { 6 } else { 5 }])
     };
     all.iter().flat_map(|tallies| [lists(tallies, 0x51), lists(tallies, 0x52)]).collect()
@@ -258,6 +264,7 @@ fn series_at_zero() -> Vec<Vec<u64>> {
     calls
 }
 
+/// Calls of two or three floats, at the cases that document 01 and the reference name.
 fn pairs() -> Vec<Vec<u64>> {
     let tiny = f64::from_bits(1);
     let values = [

@@ -1,7 +1,8 @@
-// Calls 40 and 60 to 62: rows and rectangles.
-use crate::calls::{given, number, one, six, Answer};
+// Calls 40 and 60 to 64: rows, rectangles, and the map between row layout and blocks.
+use crate::calls::{given, number, one, shown, six, Answer};
 use crate::grid::{Col, Row};
 use crate::grid_calls::grid;
+use crate::in_blocks::{self, rows_of};
 use crate::raster::{sanitise_row, CellTallies};
 use crate::refusals;
 use crate::table::{ColSpan, RowBand, Window};
@@ -10,6 +11,10 @@ use crate::words::{lent, list, Arguments};
 /// A row from its bit patterns. Patterns of NaN stay as they are.
 pub fn cells_of(patterns: &[u64]) -> Vec<f32> {
     patterns.iter().map(|&bits| f32::from_bits(bits as u32)).collect()
+}
+
+pub fn floats_of(words: &[u64]) -> Vec<f64> {
+    words.iter().map(|&bits| f64::from_bits(bits)).collect()
 }
 
 pub fn patterns_of(cells: &[f32]) -> Answer {
@@ -47,7 +52,7 @@ fn extent((rows, cols): (RowBand, ColSpan)) -> Answer {
 /// Rectangles of one table.
 pub fn populations(call: &[u64]) -> Answer {
     let g = grid(&mut Arguments(list(call, 0)));
-    let cells: Vec<f64> = lent(call, 1).iter().map(|&bits| f64::from_bits(bits)).collect();
+    let cells = rows_of(&g, &floats_of(lent(call, 1)));
     let questions = list(call, 3).chunks_exact(5);
     let mut answer = one(questions.len() as u64);
     for question in questions {
@@ -58,4 +63,18 @@ pub fn populations(call: &[u64]) -> Answer {
         answer.extend(six(given(people, number)));
     }
     answer
+}
+
+// ---- the map
+
+/// From the first list to the second; both follow the answer as they are left.
+pub fn map(number: u64, call: &[u64]) -> Answer {
+    let g = grid(&mut Arguments(list(call, 0)));
+    let (read, mut written) = (floats_of(lent(call, 1)), floats_of(lent(call, 2)));
+    let done = match number {
+        0x63 => in_blocks::map_to_blocks(&g, &read, &mut written),
+        _ => in_blocks::map_to_rows(&g, &read, &mut written),
+    };
+    let left = read.into_iter().chain(written).map(shown).collect();
+    [six(given(done, |()| vec![])), left].concat()
 }

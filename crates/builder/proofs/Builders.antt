@@ -17,7 +17,7 @@ use Rattle.raster.specs.Raster.{cellsOf, rowTallies}
 use Rattle.raster.proofs.Tallies.{cells-of-row, cells-of-sum}
 use Rattle.grid.specs.declared.Grid.{Grid}
 use Rattle.grid.specs.Grid.{limit, validGrid}
-use Rattle.table.specs.Place.{tableLength}
+use Rattle.layout.specs.Place.{payloadLength}
 use Rattle.decimation.specs.declared.Decimation.{Decimation}
 use Rattle.decimation.specs.Decimation.{factorRefusal, decimationOf, validDecimation}
 use Rattle.decimation.proofs.Factors.{Framed, framed, decimation-valid}
@@ -82,7 +82,7 @@ module _ (d : Decimation) (lent : Lengths) where
   unfolding lentRefusal
   lent-goes-on rest l =
       rw (
-        eq-eqb (lent .table) (tableLength (d .grid .width) (d .grid .height)) (l .table),
+        eq-eqb (lent .table) (payloadLength (d .grid .width) (d .grid .height)) (l .table),
         eq-eqb (lent .acc) (suc (d .source .width)) (l .acc),
         eq-eqb (lent .corr) (suc (d .source .width)) (l .corr),
         eq-eqb (lent .coarse) (suc (d .grid .width)) (l .coarse),

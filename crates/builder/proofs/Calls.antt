@@ -7,7 +7,7 @@ use native.Mathlib.Numerals.{add-one}
 use native.Mathlib.Omega.{arith}
 use borrow.Author.Tests.{eq-eqb, ne-eqb}
 use lib.Dec.{eqb}
-use lib.ListN.{length, replicate, take}
+use lib.ListN.{length, replicate}
 use lib.Ieee.{Float}
 use Rattle.refusal.proofs.Chains.{refused-by, never, answered-passed, left-alone}
 use Rattle.refusal.specs.Refusal.{Outcome, answered, refused, first, passed, outcome, unlessRefused, notItsMakers}
@@ -17,20 +17,18 @@ use Rattle.raster.specs.declared.CellTallies.{CellTallies}
 use Rattle.raster.specs.Raster.{sanitisedRow, rowTallies, plusTallies, heldTallies, noTallies}
 use Rattle.grid.specs.declared.Grid.{Grid}
 use Rattle.grid.specs.Grid.{validGrid}
-use Rattle.table.specs.Place.{laidRow}
+use Rattle.layout.specs.Written.{clearedTable, laidRow}
 use Rattle.decimation.specs.declared.Decimation.{Decimation}
 use Rattle.decimation.specs.Decimation.{factorRefusal, decimationNew}
-use Rattle.decimation.proofs.Factors.{Made, decimation-made, decimation-valid}
+use Rattle.decimation.proofs.Factors.{Made, decimation-made}
 use Rattle.sweep.specs.Sweep.{accAfter, corrAfter}
 use Rattle.builder.specs.declared.Builder.{Builder}
 use Rattle.builder.specs.declared.Lengths.{Lengths}
 use Rattle.builder.specs.Rows.{coarseFilled, handedOn}
 use Rattle.builder.specs.Build.{Buffers, buffers, lengthsOf, lentRefusal, startRefusal, firstBuilder, clearedBuffers, startCall, rowRefusal}
 use Rattle.builder.specs.Build.{builderAfter, coarseAfter, tableAfter, buffersAfter, rowCall, rowLeft, finishRefusal, builtTable, finishCall}
-use Rattle.builder.specs.private.Room.{Room}
-use Rattle.builder.proofs.HandedRows.{take-zeros}
-use Rattle.builder.proofs.Builders.{start-passed, start-goes-on, finish-passed, row-passed}
-use Rattle.builder.proofs.Kept.{acc-wide, tallies-fit}
+use Rattle.builder.proofs.Builders.{start-goes-on, finish-passed, row-passed}
+use Rattle.builder.proofs.Kept.{tallies-fit}
 
 -- ---- a start
 
@@ -75,28 +73,15 @@ module _ (g : Grid) (k nodata : ℕ) (m : Buffers) (o : Outcome Builder)
     is : (startRefusal g k (lengthsOf m) ≡ 0) × (firstBuilder g k nodata ≡ b)
     is = answered-passed (startRefusal g k (lengthsOf m)) (firstBuilder g k nodata) b (sym e ∙ a)
 
-    pub start-room : Room (b .decimation) (length (m .acc)) (length (m .coarse)) (length (m .table))
-    unfolding firstBuilder
-    start-room =
-        let s = start-passed g k m (is .0) in
-        rw (← is .1) (record {
-          valid = decimation-valid g k (s .valid) (s .factored);
-          acc = s .lengths .acc;
-          coarse = s .lengths .coarse;
-          table = s .lengths .table;
-        })
-
     pub started : (acc corr table : List Float)
         → acc ≡ replicate (length (m .acc)) f64zero
         → corr ≡ replicate (length (m .corr)) f64zero
-        → table ≡ laidRow (b .decimation .grid .width) (m .table) 0 (take (b .decimation .grid .width + 1) acc)
+        → table ≡ clearedTable (b .decimation .grid .width) (b .decimation .grid .height) (m .table)
         → (answered b ≡ startCall g k nodata m .answer) × (buffers acc corr (m .coarse) table ≡ startCall g k nodata m .buffers)
     unfolding startCall firstBuilder clearedBuffers
     started acc corr table ea ec et =
-        let w = b .decimation .grid .width in
         let own = ap (λ (x : Builder). x .decimation .grid) (is .1) in
-        let zeros = take-zeros (suc w) (length (m .acc)) f64zero (acc-wide (b .decimation) _ _ _ start-room) in
-        (sym a ∙ e, rw (is .0, own, et, ea, ec, add-one w, zeros))
+        (sym a ∙ e, rw (is .0, own, et, ea, ec))
 
 -- ---- a row, n being the number that its checks give
 

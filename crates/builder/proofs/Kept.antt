@@ -5,14 +5,15 @@ use mathlib.Core.List.{List}
 use Prim.Native.Nat.{ℕ, suc, _+_, _*_, _/_, _≤_, _<_}
 use native.Mathlib.Nat.{le-refl, div-le-of-le-mul, mul-comm, suc-mul}
 use native.Mathlib.Omega.{arith}
-use lib.ListN.{length, replicate, length-replicate, length-map}
+use lib.ListN.{length, length-replicate, length-map}
 use lib.Ieee.{Float}
 use Rattle.float.specs.Float.{f64zero}
 use Rattle.raster.specs.Raster.{sanitised, sanitisedRow, rowTallies, plusTallies, heldTallies}
 use Rattle.raster.proofs.Tallies.{cells-of-row, cells-of-sum, tallies-held}
 use Rattle.grid.specs.Grid.{limit}
-use Rattle.table.specs.Place.{laidRow}
-use Rattle.table.proofs.Places.{length-laid}
+use Rattle.layout.specs.Written.{laidRow}
+use Rattle.layout.specs.Map.{EdgeZero}
+use Rattle.layout.proofs.Written.{length-laid, edge-kept, length-cleared, edge-zero}
 use Rattle.decimation.specs.declared.Decimation.{Decimation}
 use Rattle.decimation.proofs.Factors.{Framed, framed, at-most}
 use Rattle.sweep.specs.Sweep.{accAfter}
@@ -21,7 +22,7 @@ use Rattle.builder.specs.declared.Builder.{Builder}
 use Rattle.builder.specs.Rows.{coarseFilled, handedOn}
 use Rattle.builder.specs.Build.{Buffers, lengthsOf, clearedBuffers, coarseAfter, tableAfter, buffersAfter, completes, completedRow}
 use Rattle.builder.specs.private.Room.{Sized, Room, RowRoom}
-use Rattle.builder.proofs.HandedRows.{length-coarseFilled, length-handedOn}
+use Rattle.builder.proofs.HandedRows.{length-coarseFilled}
 use Rattle.builder.proofs.Builders.{Taken, standing, builder-framed, few-cells}
 
 -- ---- a row handed on
@@ -52,14 +53,17 @@ module _ (d : Decimation) (acc coarse table : ℕ) (r : Room d acc coarse table)
 pub sized-cleared : (d : Decimation) (m : Buffers) → Sized d (lengthsOf m) → Sized d (lengthsOf (clearedBuffers (d .grid) m))
 unfolding clearedBuffers
 sized-cleared d m l =
-    let n = suc (d .grid .width) in
     record {
       acc = length-replicate (length (m .acc)) f64zero ∙ l .acc;
       corr = length-replicate (length (m .corr)) f64zero ∙ l .corr;
       coarse = l .coarse;
-      table =
-          length-laid (d .grid .width) (d .grid .height) 0 (m .table) (replicate n f64zero) (length-replicate n f64zero) (l .table) (omega arith) ∙ l .table;
+      table = length-cleared (d .grid .width) (d .grid .height) (m .table) ∙ l .table;
     }
+
+-- past the table's edge a start leaves +0.0
+pub edge-cleared : (d : Decimation) (m : Buffers) → Sized d (lengthsOf m) → EdgeZero (d .grid .width) (d .grid .height) (clearedBuffers (d .grid) m .table)
+unfolding clearedBuffers
+edge-cleared d m l = edge-zero (d .grid .width) (d .grid .height) (m .table) (l .table)
 
 module _ (b : Builder) (row : List ℕ) (m : Buffers) (t : Taken b row m) where
   abbrev d : Decimation
@@ -87,17 +91,12 @@ module _ (b : Builder) (row : List ℕ) (m : Buffers) (t : Taken b row m) where
   pub taken-inside : completedRow b ≤ d .grid .height
   taken-inside = completed-inside d (b .rows) (builder-framed b (t .valid)) (t .left)
 
-  pub length-handed : length handed ≡ suc (d .grid .width)
-  length-handed =
-      length-handedOn acc filled (d .factor) (suc (d .grid .width)) (acc-wide d _ _ _ taken-room)
-      (rw (length-coarseFilled acc (m .coarse) (d .factor)) (coarse-wide d _ _ _ taken-room))
-
   coarse-kept : (done : Bool) → length (cond done filled (m .coarse)) ≡ length (m .coarse)
   coarse-kept true = length-coarseFilled acc (m .coarse) (d .factor)
   coarse-kept false = refl
 
   table-kept : (done : Bool) → length (cond done (laidRow (d .grid .width) (m .table) (completedRow b) handed) (m .table)) ≡ length (m .table)
-  table-kept true = length-laid (d .grid .width) (d .grid .height) (completedRow b) (m .table) handed length-handed (t .lengths .table) taken-inside
+  table-kept true = length-laid (d .grid .width) (completedRow b) (m .table) handed
   table-kept false = refl
 
   pub sized-after : Sized d (lengthsOf (buffersAfter b row m))
@@ -108,6 +107,15 @@ module _ (b : Builder) (row : List ℕ) (m : Buffers) (t : Taken b row m) where
     coarse = coarse-kept (completes b) ∙ t .lengths .coarse;
     table = table-kept (completes b) ∙ t .lengths .table;
   }
+
+  -- and a row call what was there
+  pub edge-after : EdgeZero (d .grid .width) (d .grid .height) (m .table) → EdgeZero (d .grid .width) (d .grid .height) (buffersAfter b row m .table)
+  unfolding buffersAfter tableAfter
+  edge-after z = go (completes b)
+    where
+      go : (done : Bool) → EdgeZero (d .grid .width) (d .grid .height) (cond done (laidRow (d .grid .width) (m .table) (completedRow b) handed) (m .table))
+      go true = edge-kept (d .grid .width) (completedRow b) (m .table) handed (d .grid .height) taken-inside z
+      go false = z
 
   pub rows-fit : b .rows + 1 ≤ limit
   rows-fit = omega (arith, t .left, builder-framed b (t .valid) .lines)

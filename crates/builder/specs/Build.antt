@@ -13,7 +13,8 @@ use Rattle.digest.specs.Digest.{firstDigest, digestOf}
 use Rattle.raster.specs.Raster.{sanitisedRow, rowTallies, plusTallies, noTallies, cellsOf}
 use Rattle.grid.specs.declared.Grid.{Grid}
 use Rattle.grid.specs.Grid.{validGrid}
-use Rattle.table.specs.Place.{tableLength, laidRow}
+use Rattle.layout.specs.Place.{payloadLength}
+use Rattle.layout.specs.Written.{clearedTable, laidRow}
 use Rattle.decimation.specs.declared.Decimation.{Decimation}
 use Rattle.decimation.specs.Decimation.{coarseGrid, factorRefusal, decimationOf, validDecimation}
 use Rattle.sweep.specs.Sweep.{accAfter, corrAfter}
@@ -50,9 +51,9 @@ finishOutcome (finish.Refused n) = refused n
 
 -- ---- the lengths of what is lent (document 02, C-13)
 
--- 11: the table hasn't (coarse width + 1) × (coarse height + 1) cells
+-- 11: the table hasn't the payload length over the coarse grid
 abbrev pub offTable : Decimation → Lengths → Bool
-offTable d lent = not (eqb (lent .table) (tableLength (d .grid .width) (d .grid .height)))
+offTable d lent = not (eqb (lent .table) (payloadLength (d .grid .width) (d .grid .height)))
 
 -- 29: accumulator or correction row hasn't width + 1 cells
 abbrev pub offRows : Decimation → Lengths → Bool
@@ -92,11 +93,11 @@ startRefusal g k lent =
 unfoldable pub firstBuilder : Grid → ℕ → ℕ → Builder
 firstBuilder g k nodata = record { decimation = decimationOf g k; nodata = nodata; rows = 0; digest = firstDigest; tallies = noTallies }
 
--- accumulator, corrections and table row 0 are zeros; the coarse row and the other table rows are left
+-- accumulator, corrections, table row 0 and what is past the table's edge are zeros; the coarse row and the table's other cells are left
 unfoldable pub clearedBuffers : Grid → Buffers → Buffers
 clearedBuffers coarse m =
     buffers (replicate (length (m .acc)) f64zero) (replicate (length (m .corr)) f64zero) (m .coarse)
-    (laidRow (coarse .width) (m .table) 0 (replicate (suc (coarse .width)) f64zero))
+    (clearedTable (coarse .width) (coarse .height) (m .table))
 
 unfoldable pub startCall : Grid → ℕ → ℕ → Buffers → BuilderCall
 startCall g k nodata m =

@@ -10,7 +10,6 @@ use crate::BuiltTable;
 use crate::FinishAnswer;
 use crate::Lengths;
 use crate::checks::lent_refusal;
-use crate::hand_on::lay;
 use decimation::Decimation;
 use decimation::DecimationAnswer;
 use grid::Grid;
@@ -49,8 +48,7 @@ impl Builder {
         })
     }
 
-    // The first table row is the accumulator's zeros: the padding that lets a rectangle at the north edge subtract four
-    // corners like any other.
+    // What is not zeroed here is not read before a row is laid over it.
     pub fn start(
         source: Grid,
         factor: u32,
@@ -78,7 +76,7 @@ impl Builder {
         let d = b.decimation;
         clear(acc);
         clear(corr);
-        lay(table, d.grid, 0, &acc[..d.grid.width as usize + 1]);
+        layout::clear_edges(d.grid, table);
         begun
     }
 

@@ -7,7 +7,6 @@ use crate::Builder;
 use crate::Lengths;
 use decimation::Decimation;
 use refusal::first;
-use table::Table;
 
 // The number for the first length that is wrong, else that of the checks after them.
 pub(crate) fn lent_refusal(d: Decimation, lent: Lengths, rest: u32) -> u32
@@ -16,7 +15,7 @@ pub(crate) fn lent_refusal(d: Decimation, lent: Lengths, rest: u32) -> u32
 {
     let wide = d.source.width as usize + 1;
     let narrow = d.grid.width as usize + 1;
-    let off_table = lent.table != Table::padded_len(d.grid);
+    let off_table = lent.table != layout::payload_len(d.grid);
     let off_rows = (lent.acc != wide) | (lent.corr != wide);
     let off_coarse = lent.coarse != narrow;
     let n30 = first(off_coarse, refusal::WRONG_COARSE_LENGTH, rest);

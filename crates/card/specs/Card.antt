@@ -10,7 +10,7 @@ use Rattle.sections.specs.Sections.{sectionRefusal}
 use Rattle.grid.specs.declared.Grid.{Grid}
 use Rattle.grid.specs.Grid.{gridNew}
 use Rattle.decimation.specs.declared.Decimation.{Decimation}
-use Rattle.table.specs.Place.{tableLength}
+use Rattle.layout.specs.Place.{payloadLength}
 use Rattle.decimation.specs.Decimation.{decimationNew}
 use Rattle.card.specs.Words.{u32At, f64At, wordsAt}
 use Rattle.card.specs.declared.Header.{Header}
@@ -36,9 +36,9 @@ rowBytes h = record { start = h .«rows_at»; end = h .«rows_at» + 4 * (h .dec
 abbrev pub circleBytes : Header → ByteRange
 circleBytes h = record { start = h .«circles_at»; end = h .«circles_at» + 16 * h .circles }
 
--- 27 (table): the source table has over 8,192 cells
+-- 27 (table): the source table's payload length is over 8,192, whatever the factor (document 02, C-16)
 abbrev pub tableTooLarge : Grid → Bool
-tableTooLarge g = ltb 8192 (tableLength (g .width) (g .height))
+tableTooLarge g = ltb 8192 (payloadLength (g .width) (g .height))
 
 -- what a header call's answer is in document 01's terms
 abbrev pub headerOutcome : HeaderAnswer → Outcome Header

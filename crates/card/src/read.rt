@@ -15,12 +15,11 @@ use grid::GridAnswer;
 use refusal::first;
 use sections::ByteRange;
 use sections::section_refusal;
-use table::Table;
 
-// The most bytes of a card, and the most cells of its source table.
+// The most bytes of a card, and the most places of its source table.
 const MOST_BYTES: usize = 65536;
 
-const MOST_TABLE_CELLS: usize = 8192;
+const MOST_PLACES: usize = 8192;
 
 fn grid_at(card: &[u8]) -> GridAnswer
     ensures { λ r. ⌜ gridOutcome r ≡ gridNew (gridAt (now (card .entry))) ⌝ }
@@ -53,7 +52,7 @@ fn header_at(card: &[u8], d: Decimation) -> Header
 fn is_table_too_large(g: Grid) -> bool
     ensures { λ r. ⌜ r ≡ tableTooLarge g ⌝ }
 {
-    MOST_TABLE_CELLS < Table::padded_len(g)
+    MOST_PLACES < layout::payload_len(g)
 }
 
 fn rows_of(h: Header) -> ByteRange

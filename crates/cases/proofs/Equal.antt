@@ -5,7 +5,7 @@ use lib.Ieee.{add, sub, mul, neg, lt, le, eq, ofInt, ofBits, toBits}
 use Rattle.geodesy.specs.Sphere.{wrapLon}
 use Rattle.radius.specs.Radius.{radiusRefusal, validRadius}
 use Rattle.grid.specs.Grid.{gridRefusal, validGrid, sameGrid}
-use Rattle.table.specs.Place.{rightTable}
+use Rattle.layout.specs.Place.{rightTable}
 use Rattle.decimation.specs.Decimation.{coarseGrid, validDecimation}
 use Rattle.builder.specs.Build.{validBuilder, rowRefusal, rowCall}
 use Rattle.kernel.specs.Kernel.{validKernel}

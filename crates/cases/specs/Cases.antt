@@ -6,7 +6,7 @@ use lib.IntN.{negsuc}
 use lib.ListN.{replicate}
 use lib.Ieee.{Float, binary64, neg, ofBits, toBits}
 use Rattle.refusal.specs.Refusal.{Outcome, answered, refused}
-use Rattle.float.specs.Float.{f64zero, f64one}
+use Rattle.float.specs.Float.{f64zero, f64one, f64of}
 use Rattle.float.specs.TwoSum.{twoSum}
 use Rattle.raster.specs.Raster.{kindOf}
 use Rattle.raster.specs.Example.{exampleMark, firstRow, secondRow, kindNumber}
@@ -16,7 +16,8 @@ use Rattle.grid.specs.Grid.{f64p90, tolerance, gridNew}
 use Rattle.grid.specs.Example.{exampleGrid}
 use Rattle.grid.specs.Lookup.{colAlongCall}
 use Rattle.builder.specs.declared.Builder.{Builder}
-use Rattle.table.specs.Place.{tableLength}
+use Rattle.layout.specs.Place.{payloadLength}
+use Rattle.layout.specs.Map.{toBlocks}
 use Rattle.decimation.specs.Decimation.{coarseGrid, decimationNew}
 use Rattle.builder.specs.Build.{Buffers, buffers, BuilderCall, startCall, rowCall}
 use Rattle.table.specs.Rectangle.{rowBand, rectanglePopulation}
@@ -43,7 +44,7 @@ next row before = nextOn (before .answer) (before .buffers) row
 abbrev pub lentFor : ℕ → Buffers
 lentFor k =
     buffers (replicate 5 f64one) (replicate 5 f64one) (replicate (suc (coarseGrid exampleGrid k .width)) f64one)
-    (replicate (tableLength (coarseGrid exampleGrid k .width) (coarseGrid exampleGrid k .height)) f64one)
+    (replicate (payloadLength (coarseGrid exampleGrid k .width) (coarseGrid exampleGrid k .height)) f64one)
 
 -- the example's table at a factor
 unfoldable pub exampleTable : ℕ → List Float
@@ -80,16 +81,13 @@ table =
           ∷ bitsOf (twoSum (ofBits binary64 0x4340_0000_0000_0000) f64one .dropped) ∷ [];
       says = 0x4340_0000_0000_0000 ∷ 0x3ff0_0000_0000_0000 ∷ [];
     }
-    -- the example's table: 0 0 0 0 0 / 0 1 3 6 10 / 0 6 8 11 15
+    -- the example's table, in row layout: 0 0 0 0 0 / 0 1 3 6 10 / 0 6 8 11 15
     ∷ record {
       gives = map bitsOf (exampleTable 1);
-      says =
-          0 ∷ 0 ∷ 0 ∷ 0 ∷ 0
-          ∷ 0 ∷ 0x3ff0_0000_0000_0000 ∷ 0x4008_0000_0000_0000 ∷ 0x4018_0000_0000_0000 ∷ 0x4024_0000_0000_0000
-          ∷ 0 ∷ 0x4018_0000_0000_0000 ∷ 0x4020_0000_0000_0000 ∷ 0x4026_0000_0000_0000 ∷ 0x402e_0000_0000_0000 ∷ [];
+      says = map bitsOf (toBlocks 4 2 (map f64of (0 ∷ 0 ∷ 0 ∷ 0 ∷ 0 ∷ 0 ∷ 1 ∷ 3 ∷ 6 ∷ 10 ∷ 0 ∷ 6 ∷ 8 ∷ 11 ∷ 15 ∷ [])));
     }
     -- its factor 2: 0 0 0 / 0 8 15
-    ∷ record { gives = map bitsOf (exampleTable 2); says = 0 ∷ 0 ∷ 0 ∷ 0 ∷ 0x4020_0000_0000_0000 ∷ 0x402e_0000_0000_0000 ∷ [] }
+    ∷ record { gives = map bitsOf (exampleTable 2); says = map bitsOf (toBlocks 2 1 (map f64of (0 ∷ 0 ∷ 0 ∷ 0 ∷ 8 ∷ 15 ∷ []))) }
     -- factor 0 or 3 there: 10
     ∷ record { gives = numberOf (decimationNew exampleGrid 0) ∷ numberOf (decimationNew exampleGrid 3) ∷ []; says = 10 ∷ 10 ∷ [] }
     -- row 0, west 3, east 0: 5

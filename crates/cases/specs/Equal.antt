@@ -40,12 +40,12 @@ rowOn lat lon =
       rows = 0;
       digest = 0;
       tallies = noTallies;
-    }) firstRow (buffers (replicate 5 f64zero) (replicate 5 f64zero) (replicate 3 f64zero) (replicate 6 f64zero)) .answer)
+    }) firstRow (buffers (replicate 5 f64zero) (replicate 5 f64zero) (replicate 3 f64zero) (replicate 64 f64zero)) .answer)
 
 -- the number of a circle around that column of a table from 0.0, 0.0 on, with a kernel of one row whose grid has that origin
 abbrev circleOn : Float → Float → ℕ → ℕ
 circleOn lat lon column =
-    numberOf (circlePopulation (from f64zero f64zero) (replicate 15 f64zero) (record {
+    numberOf (circlePopulation (from f64zero f64zero) (replicate 64 f64zero) (record {
       grid = from lat lon;
       centre = record { 0 = 0 };
       radius = record { 0 = f64one };

@@ -4,6 +4,7 @@ ghost use Prim.Native.Nat.{_<_};
 ghost use lib.ListN.{length};
 ghost use lib.IntN.{pos, negℤ};
 ghost use Rattle.grid.specs.Lookup.{colAlong};
+ghost use Rattle.layout.specs.Place.{corner, rightTable};
 ghost use Rattle.table.specs.Rectangle.{rectangleSum, populationOutcome};
 ghost use Rattle.circle.specs.private.Ready.{RowReady, CircleReady};
 ghost use Rattle.circle.specs.Circle.{spanAround, circleSum, circleRefusal, circlePopulation};
@@ -47,7 +48,8 @@ fn column_on(width: u32, centre: Col, h: u32) -> Col
 // turn: at an even width its two ends are the same column, which from west to east would be that column alone.
 fn row_sum(table: Table, cells: &[f64], closing: u32, centre: Col, row: Row, h: u32) -> f64
     requires { ⌜ RowReady (table .grid) (length (now cells)) closing (centre .0) (row .0) h ⌝ }
-    ensures { λ r. ⌜ r ≡ rectangleSum (table .grid .width) (now (cells .entry)) (row .0) (row .0) (spanAround (table .grid .width) (centre .0) h) ⌝ }
+    ensures { λ r. ⌜ r ≡ rectangleSum (table .grid .width) (corner (table .grid .width) (now (cells .entry))) (row .0) (row .0)
+        (spanAround (table .grid .width) (centre .0) h) ⌝ }
 {
     let rows = RowBand::new(row, row);
     if h == closing {
@@ -62,7 +64,7 @@ fn row_sum(table: Table, cells: &[f64], closing: u32, centre: Col, row: Row, h: 
 // The order is fixed: a rerun gives the same answer down to the last bit. What all rows share stands before the loop.
 fn circle_sum(table: Table, cells: &[f64], k: Kernel, half_widths: &[u32], centre: Col) -> f64
     requires { ⌜ CircleReady (table .grid) (length (now cells)) k (now «half_widths») (centre .0) ⌝ }
-    ensures { λ r. ⌜ r ≡ circleSum (table .grid .width) (now (cells .entry)) k (now («half_widths» .entry)) (centre .0) ⌝ }
+    ensures { λ r. ⌜ r ≡ circleSum (table .grid .width) (corner (table .grid .width) (now (cells .entry))) k (now («half_widths» .entry)) (centre .0) ⌝ }
 {
     let closing = cap::closing(table.grid.width);
     let north = k.north.0;
@@ -79,7 +81,7 @@ fn circle_sum(table: Table, cells: &[f64], k: Kernel, half_widths: &[u32], centr
 
 // The number of the first check that a circle call fails.
 fn circle_refusal(table: Table, cells: &[f64], k: Kernel, half_widths: &[u32], centre: Col) -> u32
-    ensures { λ r. ⌜ r ≡ circleRefusal (table .grid) (now (cells .entry)) k (now («half_widths» .entry)) centre ⌝ }
+    ensures { λ r. ⌜ r ≡ circleRefusal (table .grid) (rightTable (table .grid) (now (cells .entry))) k (now («half_widths» .entry)) centre ⌝ }
 {
     let g = table.grid;
     let other = k.grid;

@@ -20,6 +20,7 @@ use Rattle.grid.specs.Lookup.{closes}
 use Rattle.decimation.specs.Decimation.{coarseGrid}
 use Rattle.builder.specs.declared.Builder.{Builder}
 use Rattle.builder.specs.Build.{totalOf}
+use Rattle.layout.specs.Place.{corner}
 use Rattle.kernel.specs.Kernel.{kernelOf, halfWidths}
 use Rattle.kernel.proofs.Rules.{rows-end, widths-rule}
 use Rattle.kernel.proofs.Makers.{enough-widths}
@@ -89,7 +90,7 @@ module _ (s : ℕ) (S : s ≤ 1074) (card : List ℕ) (h : Header) (e : readHead
       let row : Row = record { 0 = c .row } in
       let radius : RadiusKm = record { 0 = c .radius } in
       let zeros : List ℕ = replicate (coarse .height) 0 in
-      sym (own-sum coarse row radius zeros (coarse .width) (built .lent .table) (c .col))
+      sym (own-sum coarse row radius zeros (coarse .width) (corner (coarse .width) (built .lent .table)) (c .col))
       ∙ rw own at
       (circle-sum-of S f ok all (kernelOf coarse row radius) (halfWidths coarse row radius zeros) (c .col) (rw own (on .1))
       (rw own (rows-end coarse row radius (on .0))) (enough-widths coarse row radius zeros) (rw own (λ i q. widths-rule coarse row radius zeros i q .closed)))

@@ -13,7 +13,7 @@ use Rattle.grid.specs.declared.Grid.{Grid}
 use Rattle.grid.specs.Grid.{gridRefusal, validGrid}
 use Rattle.raster.specs.Raster.{kindOf}
 use Rattle.exact.specs.Units.{unitCount, f64units, Exactly}
-use Rattle.table.specs.Place.{tableLength}
+use Rattle.layout.specs.Place.{payloadLength}
 use Rattle.decimation.specs.Decimation.{coarseGrid, factorRefusal}
 use Rattle.builder.specs.Build.{Buffers, buffers, lentRefusal, startRefusal, firstBuilder, startCall}
 use Rattle.table.specs.Rectangle.{rowBand, rectanglePopulation}
@@ -64,18 +64,18 @@ eighths =
 -- ---- the two counters
 
 lent₁ : Buffers
-lent₁ = buffers (replicate 9 nan) (replicate 9 nan) (replicate 9 nan) (replicate 27 nan)
+lent₁ = buffers (replicate 9 nan) (replicate 9 nan) (replicate 9 nan) (replicate 128 nan)
 
 lent₂ : Buffers
-lent₂ = buffers (replicate 9 nan) (replicate 9 nan) (replicate 5 nan) (replicate 10 nan)
+lent₂ = buffers (replicate 9 nan) (replicate 9 nan) (replicate 5 nan) (replicate 64 nan)
 
 start₁ : startCall grid 1 mark lent₁ .answer ≡ answered (firstBuilder grid 1 mark)
-unfolding grid mark lent₁ startCall startRefusal validGrid gridRefusal factorRefusal coarseGrid lentRefusal tableLength wrapLon le lt eq neg add sub mul
+unfolding grid mark lent₁ startCall startRefusal validGrid gridRefusal factorRefusal coarseGrid lentRefusal payloadLength wrapLon le lt eq neg add sub mul
     ofInt ofBits
 start₁ = refl
 
 start₂ : startCall grid 2 mark lent₂ .answer ≡ answered (firstBuilder grid 2 mark)
-unfolding grid mark lent₂ startCall startRefusal validGrid gridRefusal factorRefusal coarseGrid lentRefusal tableLength wrapLon le lt eq neg add sub mul
+unfolding grid mark lent₂ startCall startRefusal validGrid gridRefusal factorRefusal coarseGrid lentRefusal payloadLength wrapLon le lt eq neg add sub mul
     ofInt ofBits
 start₂ = refl
 

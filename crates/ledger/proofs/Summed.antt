@@ -13,7 +13,7 @@ use Rattle.raster.specs.Raster.{sanitisedRow}
 use Rattle.exact.specs.Units.{f64units}
 use Rattle.exact.proofs.Units.{units-zero}
 use Rattle.builder.specs.declared.Builder.{Builder}
-use Rattle.table.specs.Place.{corner}
+use Rattle.layout.specs.Place.{corner}
 use Rattle.decimation.specs.declared.Decimation.{Decimation}
 use Rattle.sweep.specs.Sweep.{accAfter, corrAfter}
 use Rattle.builder.specs.private.Room.{Sized}

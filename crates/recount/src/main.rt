@@ -5,7 +5,7 @@ ghost use Prim.Native.Nat.{_<_};
 ghost use lib.ListN.{length};
 use libc::STDOUT_FILENO;
 
-const CARDS: u8 = 55;
+const CARDS: u8 = 67;
 
 fn card_buffer() -> [u8; 65537]
     ensures { λ r. ⌜ 65537 ≡ length r ⌝ }

@@ -10,6 +10,7 @@ pub fn answer(n: u64, call: &[u8], out: &mut Text) -> usize {
         0x51 => crate::build_calls::row(call, out),
         0x52 => crate::build_calls::finish(call, out),
         0x60 | 0x80 => crate::table_calls::populations(n, call, out),
+        0x63 | 0x64 => crate::layout_calls::map(n, call, out),
         _ => put_answer(out, 0, short_answer(n, call)),
     }
 }

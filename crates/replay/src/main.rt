@@ -8,6 +8,7 @@ mod build_calls;
 mod calls;
 mod geodesy_calls;
 mod grid_calls;
+mod layout_calls;
 mod number_calls;
 mod row_calls;
 mod table_calls;

@@ -10,7 +10,7 @@ use Rattle.refusal.specs.Refusal.{Outcome, answered, refused, passed}
 use Rattle.refusal.proofs.Chains.{never, answered-same}
 use Rattle.raster.specs.Raster.{cellsOf}
 use Rattle.grid.specs.declared.Grid.{Grid}
-use Rattle.table.specs.Place.{tableLength}
+use Rattle.layout.specs.Place.{payloadLength}
 use Rattle.decimation.specs.declared.Decimation.{Decimation}
 use Rattle.decimation.specs.Decimation.{coarseGrid, decimationOf}
 use Rattle.builder.specs.declared.Builder.{Builder}
@@ -153,7 +153,7 @@ module _ {card : List ℕ} {h : Header} (a : Accepted card h) where
       record { table = rw (builder, lent, passes); filled = ap (λ (x : Buffers). x .table) lent }
 
   -- the table that the rows leave
-  pub table-filled : length (wholeBuild card h .lent .table) ≡ tableLength (d .grid .width) (d .grid .height)
+  pub table-filled : length (wholeBuild card h .lent .table) ≡ payloadLength (d .grid .width) (d .grid .height)
   table-filled = subst (λ (x : Decimation). Sized x (lengthsOf (wholeBuild card h .lent))) (whole .decimation) (whole .lengths) .table
 
   -- each cell of the rows is tallied once

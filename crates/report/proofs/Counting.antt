@@ -17,6 +17,7 @@ use Rattle.grid.specs.declared.Grid.{Grid}
 use Rattle.grid.specs.declared.Row.{Row}
 use Rattle.grid.specs.declared.Col.{Col}
 use Rattle.grid.specs.Lookup.{closes}
+use Rattle.layout.specs.Place.{corner}
 use Rattle.kernel.specs.declared.Kernel.{Kernel}
 use Rattle.kernel.specs.Kernel.{kernelRefusal, kernelOf, kernelNew}
 use Rattle.kernel.proofs.Rules.{kernel-passed}
@@ -83,4 +84,5 @@ module _ (g : Grid) (c : CardCircle) (radius : RadiusKm) (m : answered (radius .
         let same : radius ≡ record { 0 = c .radius } = ap (λ (x : Float). record { 0 = x }) (sym (measured .1)) in
         let on : circleChecks g c ≡ first (leb (g .width) (c .col)) columnOffGrid passed =
         checks-go-on ∙ rw (lt-leb (g .height) (c .row) (q .on), q .closes) in
-        rw (w, p .0, ← p .1, only-16 g row radius lent cells col (p .0) (s .right), own-sum g row radius lent (g .width) cells (c .col), on, same)
+        let own = own-sum g row radius lent (g .width) (corner (g .width) cells) (c .col) in
+        rw (w, p .0, ← p .1, only-16 g row radius lent cells col (p .0) (s .right), own, on, same)

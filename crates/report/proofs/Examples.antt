@@ -12,7 +12,8 @@ use Rattle.stand_ins.specs.StandIns.{sineTerm, sinOf, cosineTerm, cosOf, arctan
 use Rattle.geodesy.specs.Sphere.{wrapLon, haversine, angleOf, distanceRad, centralAngleRad}
 use Rattle.grid.specs.Grid.{gridRefusal, gridNew, validGrid}
 use Rattle.grid.specs.Lookup.{latAt, closes, colAlong}
-use Rattle.table.specs.Place.{corner, tableLength, laidRow}
+use Rattle.layout.specs.Place.{payloadLength, corner, inBlocks}
+use Rattle.layout.specs.Written.{clearedTable, laidRow}
 use Rattle.sweep.specs.Sweep.{takenIn, accAfter, corrAfter}
 use Rattle.builder.specs.Rows.{handedOn}
 use Rattle.decimation.specs.Decimation.{decimationNew}
@@ -78,10 +79,11 @@ text =
     ∷ []
 
 pub example-text : printed example ≡ text
-unfolding ofBits ofInt toUnsigned add sub mul div rem neg lt le eq isNan smaller clamped remEuclid twoSum rootUnits kindOf sineTerm sinOf cosineTerm
-    cosOf arctanTerm arctanSeries halved arctanOf atan2Of acosOf toRadians toDegrees wrapLon haversine angleOf distanceRad centralAngleRad gridRefusal
-    gridNew validGrid latAt closes colAlong corner tableLength laidRow takenIn accAfter corrAfter handedOn decimationNew firstBuilder clearedBuffers
-    builderAfter coarseAfter tableAfter buffersAfter rectangleSum climbed descended walked northOf southOf capOver contained reached edgeRatio edgeColumns
-    estimated halfWidth capAt rowReached rowWidth northRow southRow rowCount kernelOf ownWidths spanAround circleSum shown refusedLine rowsLine cellsLine
-    totalLine circleLine circleRefusedLine u32At u64At gridAt headerAt readHeader rowAt circleAt emptyBuffers circleChecks circleCount printed
+unfolding ofBits ofInt toUnsigned add sub mul div rem neg lt le eq isNan smaller clamped remEuclid twoSum rootUnits kindOf sineTerm sinOf cosineTerm cosOf
+    arctanTerm arctanSeries halved arctanOf atan2Of acosOf toRadians toDegrees wrapLon haversine angleOf distanceRad centralAngleRad gridRefusal gridNew
+    validGrid latAt closes colAlong payloadLength corner inBlocks clearedTable laidRow takenIn accAfter corrAfter handedOn decimationNew firstBuilder
+    clearedBuffers builderAfter coarseAfter tableAfter buffersAfter rectangleSum climbed descended walked northOf southOf capOver contained reached
+    edgeRatio edgeColumns estimated halfWidth capAt rowReached rowWidth northRow southRow rowCount kernelOf ownWidths spanAround circleSum shown
+    refusedLine rowsLine cellsLine totalLine circleLine circleRefusedLine u32At u64At gridAt headerAt readHeader rowAt circleAt emptyBuffers circleChecks
+    circleCount printed
 example-text = refl

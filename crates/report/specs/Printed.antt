@@ -15,7 +15,7 @@ use Rattle.grid.specs.Lookup.{closes}
 use Rattle.radius.specs.declared.RadiusKm.{RadiusKm}
 use Rattle.decimation.specs.declared.Decimation.{Decimation}
 use Rattle.builder.specs.declared.Builder.{Builder}
-use Rattle.table.specs.Place.{tableLength}
+use Rattle.layout.specs.Place.{payloadLength, corner}
 use Rattle.builder.specs.Build.{Buffers, buffers, firstBuilder, clearedBuffers, builderAfter, buffersAfter, totalOf}
 use Rattle.kernel.specs.Kernel.{kernelOf, ownWidths}
 use Rattle.circle.specs.Circle.{circleSum}
@@ -35,7 +35,7 @@ pub record Building : Type 0 where
 unfoldable pub emptyBuffers : Decimation → Buffers
 emptyBuffers d =
     buffers (replicate (suc (d .source .width)) f64zero) (replicate (suc (d .source .width)) f64zero) (replicate (suc (d .grid .width)) f64zero)
-    (replicate (tableLength (d .grid .width) (d .grid .height)) f64zero)
+    (replicate (payloadLength (d .grid .width) (d .grid .height)) f64zero)
 
 abbrev pub builtFrom : List ℕ → Header → ℕ → Building
 builtFrom card h zero =
@@ -65,7 +65,7 @@ unfoldable pub circleCount : Grid → List Float → CardCircle → Float
 circleCount g cells c =
     let row : Row = record { 0 = c .row } in
     let radius : RadiusKm = record { 0 = c .radius } in
-    circleSum (g .width) cells (kernelOf g row radius) (ownWidths g row radius) (c .col)
+    circleSum (g .width) (corner (g .width) cells) (kernelOf g row radius) (ownWidths g row radius) (c .col)
 
 -- ---- the text
 

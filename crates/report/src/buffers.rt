@@ -1,18 +1,18 @@
-// Buffers that serve every card: its source table has at most 8,192 cells, so its width and height are below 4,096.
+// Buffers that serve every card: its source table has at most 8,192 places, so its width and height are below 1,024.
 ghost use mathlib.Core.Path.{_≡_};
 ghost use lib.ListN.{length, replicate};
 ghost use Rattle.float.specs.Float.{f64zero};
 
-pub(crate) fn words_buffer() -> [u32; 4096]
-    ensures { λ r. ⌜ 4096 ≡ length r ⌝ }
+pub(crate) fn words_buffer() -> [u32; 1024]
+    ensures { λ r. ⌜ 1024 ≡ length r ⌝ }
 {
-    [0; 4096]
+    [0; 1024]
 }
 
-pub(crate) fn row_buffer() -> [f64; 4096]
-    ensures { λ r. ⌜ r ≡ replicate 4096 f64zero ⌝ }
+pub(crate) fn row_buffer() -> [f64; 1024]
+    ensures { λ r. ⌜ r ≡ replicate 1024 f64zero ⌝ }
 {
-    [0.0; 4096]
+    [0.0; 1024]
 }
 
 pub(crate) fn table_buffer() -> [f64; 8192]

@@ -4,7 +4,7 @@ ghost use mathlib.Core.List.{_++_};
 ghost use lib.ListN.{length};
 ghost use Rattle.text.specs.Text.{refusedLine, rowsLine, cellsLine, totalLine};
 ghost use Rattle.digits.specs.Laid.{Laid};
-ghost use Rattle.table.specs.Place.{tableLength};
+ghost use Rattle.layout.specs.Place.{payloadLength};
 ghost use Rattle.table.specs.Rectangle.{populationOutcome};
 ghost use Rattle.card.specs.private.Accepted.{Accepted};
 ghost use Rattle.report.specs.Printed.{circleText, circlesText};
@@ -26,7 +26,7 @@ fn put_circle(out: &mut [u8], at: usize, i: u32, answer: PopulationAnswer) -> us
 }
 
 pub(crate) fn put_circles(card: &[u8], h: Header, cells: &[f64], out: &mut [u8], at: usize) -> usize
-    requires { ⌜ (Accepted (now card) h) × (length (now cells) ≡ tableLength (h .decimation .grid .width) (h .decimation .grid .height)) ⌝ }
+    requires { ⌜ (Accepted (now card) h) × (length (now cells) ≡ payloadLength (h .decimation .grid .width) (h .decimation .grid .height)) ⌝ }
     ensures { λ r. ⌜ Laid (now (out .entry)) at (circlesText (now (card .entry)) h (now (cells .entry)) (h .circles)) (now (out .exit)) r ⌝ }
 {
     let grid = h.decimation.grid;

@@ -16,14 +16,13 @@ use builder::FinishAnswer;
 use card::Header;
 use card::HeaderAnswer;
 use card::read_header;
-use table::Table;
 
 // The build over a table of zeros, then the text. The build of an accepted card is never refused.
 fn report(card: &[u8], h: Header, out: &mut [u8]) -> usize
     requires { ⌜ Accepted (now card) h ⌝ }
     ensures { λ r. ⌜ Printed (reportText (now (card .entry)) (answered h)) (now (out .entry)) (now (out .exit)) r ⌝ }
 {
-    let len = Table::padded_len(h.decimation.grid);
+    let len = layout::payload_len(h.decimation.grid);
     let mut table = table_buffer();
     let table = &mut table[..len];
     let built = build(card, h, table);

@@ -11,7 +11,7 @@ use Rattle.float.specs.Constants.{f64p360}
 use Rattle.grid.specs.declared.Grid.{Grid}
 use Rattle.grid.specs.Grid.{tolerance}
 use Rattle.grid.specs.Lookup.{cellContaining}
-use Rattle.table.specs.Place.{tableLength}
+use Rattle.layout.specs.Place.{payloadLength}
 use Rattle.table.specs.private.Held.{Held}
 use Rattle.table.specs.declared.ColSpan.{ColSpan}
 use Rattle.table.specs.declared.ColSpan.the-variants.{Through, FullTurn}
@@ -50,7 +50,7 @@ module _ (g : Grid) (w : Window) (rows : RowBand) (cols : ColSpan) where
       (p .0, rw (← p .1, lt-ltb (a .1) (g .width) a-on, lt-ltb (b .1) (g .width) b-on)))
 
   -- so a rectangle call on that extent and a table of the right length is not refused
-  pub covering-answered : (cells : List Float) → covering g w ≡ answered (rows, cols) → length cells ≡ tableLength (g .width) (g .height)
+  pub covering-answered : (cells : List Float) → covering g w ≡ answered (rows, cols) → length cells ≡ payloadLength (g .width) (g .height)
       → OnGrid g cells rows cols
   unfolding covering
   covering-answered cells e l =

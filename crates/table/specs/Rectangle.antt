@@ -7,7 +7,8 @@ use lib.Ieee.{Float, nan, binary64, add, sub}
 use Rattle.refusal.specs.Refusal.{Outcome, answered, refused, first, passed, outcome, notItsMakers, wrongTableLength, rowOffGrid, columnOffGrid}
 use Rattle.grid.specs.declared.Grid.{Grid}
 use Rattle.grid.specs.Grid.{validGrid}
-use Rattle.table.specs.Place.{corner, rightTable}
+use Rattle.layout.specs.Place.{corner, rightTable}
+use Rattle.layout.specs.Rows.{rowCorner, rightRows}
 use Rattle.table.specs.declared.RowBand.{RowBand}
 use Rattle.table.specs.declared.ColSpan.{ColSpan}
 use Rattle.table.specs.declared.ColSpan.the-variants.{Through, FullTurn}
@@ -18,20 +19,19 @@ use Rattle.table.specs.declared.PopulationAnswer.the-variants as populat
 abbrev pub rowBand : ℕ → ℕ → RowBand
 rowBand a b = record { north = record { 0 = min a b }; south = record { 0 = max a b } }
 
--- Crow: the rows north to south with both in, the columns from first up to last, by four corners in the Rust's order
-unfoldable pub boxSum : ℕ → List Float → ℕ → ℕ → ℕ → ℕ → Float
-boxSum width cells north south first last =
-    add binary64
-    (sub binary64 (sub binary64 (corner width cells (suc south) last) (corner width cells north last)) (corner width cells (suc south) first))
-    (corner width cells north first)
+-- Crow: the rows north to south with both in, the columns from first up to last, by four corners in the Rust's order. `cell` is what stands
+-- in a table row and a table column
+unfoldable pub boxSum : (ℕ → ℕ → Float) → ℕ → ℕ → ℕ → ℕ → Float
+boxSum cell north south first last =
+    add binary64 (sub binary64 (sub binary64 (cell (suc south) last) (cell north last)) (cell (suc south) first)) (cell north first)
 
 -- a full turn is one rectangle; west past east is two pieces at the seam
-unfoldable pub rectangleSum : ℕ → List Float → ℕ → ℕ → ColSpan → Float
+unfoldable pub rectangleSum : ℕ → (ℕ → ℕ → Float) → ℕ → ℕ → ColSpan → Float
 unfolding boxSum
-rectangleSum width cells north south FullTurn = boxSum width cells north south 0 width
-rectangleSum width cells north south (Through west east) =
-    cond (leb (west .0) (east .0)) (boxSum width cells north south (west .0) (suc (east .0)))
-    (add binary64 (boxSum width cells north south (west .0) width) (boxSum width cells north south 0 (suc (east .0))))
+rectangleSum width cell north south FullTurn = boxSum cell north south 0 width
+rectangleSum width cell north south (Through west east) =
+    cond (leb (west .0) (east .0)) (boxSum cell north south (west .0) (suc (east .0)))
+    (add binary64 (boxSum cell north south (west .0) width) (boxSum cell north south 0 (suc (east .0))))
 
 -- both columns are the grid's
 abbrev pub spanOnGrid : ℕ → ColSpan → Bool
@@ -46,13 +46,13 @@ rectangleHeld g cells rows cols =
 -- the sum where they are, else the NaN: for callers that have checked, as a circle's rows
 unfoldable pub heldSum : Grid → List Float → RowBand → ColSpan → Float
 heldSum g cells rows cols =
-    cond (rectangleHeld g cells rows cols) (rectangleSum (g .width) cells (rows .north .0) (rows .south .0) cols) nan
+    cond (rectangleHeld g cells rows cols) (rectangleSum (g .width) (corner (g .width) cells) (rows .north .0) (rows .south .0) cols) nan
 
--- 22 (a grid, or a band whose north is past its south), 11, 15, 16
-unfoldable pub rectangleRefusal : Grid → List Float → RowBand → ColSpan → ℕ
-rectangleRefusal g cells rows cols =
+-- 22 (a grid, or a band whose north is past its south), 11 (`right`: the table's length is), 15, 16
+unfoldable pub rectangleRefusal : Grid → Bool → RowBand → ColSpan → ℕ
+rectangleRefusal g right rows cols =
     first (not (validGrid g && leb (rows .north .0) (rows .south .0))) notItsMakers
-    (first (not (rightTable g cells)) wrongTableLength
+    (first (not right) wrongTableLength
     (first (leb (g .height) (rows .south .0)) rowOffGrid
     (first (not (spanOnGrid (g .width) cols)) columnOffGrid passed)))
 
@@ -61,7 +61,14 @@ abbrev pub populationOutcome : PopulationAnswer → Outcome Float
 populationOutcome (population.People x) = answered x
 populationOutcome (population.Refused n) = refused n
 
--- `population`
+-- `population`, of a table in any layout
+abbrev pub rectangleBy : Grid → Bool → (ℕ → ℕ → Float) → RowBand → ColSpan → Outcome Float
+rectangleBy g right cell rows cols = outcome (rectangleRefusal g right rows cols) (rectangleSum (g .width) cell (rows .north .0) (rows .south .0) cols)
+
+-- in blocks (document 02, C-16)
 unfoldable pub rectanglePopulation : Grid → List Float → RowBand → ColSpan → Outcome Float
-rectanglePopulation g cells rows cols =
-    outcome (rectangleRefusal g cells rows cols) (rectangleSum (g .width) cells (rows .north .0) (rows .south .0) cols)
+rectanglePopulation g cells rows cols = rectangleBy g (rightTable g cells) (corner (g .width) cells) rows cols
+
+-- in row layout, as document 01 has it
+unfoldable pub rowRectanglePopulation : Grid → List Float → RowBand → ColSpan → Outcome Float
+rowRectanglePopulation g cells rows cols = rectangleBy g (rightRows g cells) (rowCorner (g .width) cells) rows cols

@@ -5,7 +5,7 @@ use lib.Ieee.{Float}
 use Rattle.refusal.specs.Refusal.{Outcome, answered, refused, first, passed, outcome, notItsMakers, wrongTableLength}
 use Rattle.grid.specs.declared.Grid.{Grid}
 use Rattle.grid.specs.Grid.{validGrid}
-use Rattle.table.specs.Place.{rightTable}
+use Rattle.layout.specs.Place.{rightTable}
 use Rattle.table.specs.declared.Table.{Table}
 use Rattle.table.specs.declared.TableAnswer.{TableAnswer}
 use Rattle.table.specs.declared.TableAnswer.the-variants as table

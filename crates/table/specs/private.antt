@@ -1,2 +1,3 @@
 -- What private functions of `table` go by.
 pub mod Held
+pub mod Lines

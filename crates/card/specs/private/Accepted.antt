@@ -7,7 +7,7 @@ use lib.ListN.{length}
 use Rattle.refusal.specs.Refusal.{answered}
 use Rattle.sections.specs.Sections.{sectionsApart}
 use Rattle.grid.specs.declared.Grid.{Grid}
-use Rattle.table.specs.Place.{tableLength}
+use Rattle.layout.specs.Place.{payloadLength}
 use Rattle.decimation.specs.Decimation.{decimationNew}
 use Rattle.card.specs.declared.Header.{Header}
 use Rattle.card.specs.Card.{rowBytes, circleBytes}
@@ -19,7 +19,7 @@ FewCells g = g .width * g .height ≤ 1099511627776
 -- its card, its source table and its sections have their sizes, its sections are apart, and its decimation was made
 pub record Accepted (card : List ℕ) (h : Header) : Type 0 where
   pub whole : length card ≤ 65536
-  pub small : tableLength (h .decimation .source .width) (h .decimation .source .height) ≤ 8192
+  pub small : payloadLength (h .decimation .source .width) (h .decimation .source .height) ≤ 8192
   pub rows : h .«rows_at» + 4 * (h .decimation .source .width * h .decimation .source .height) ≤ length card
   pub circles : h .«circles_at» + 16 * h .circles ≤ length card
   pub apart : sectionsApart (rowBytes h) (circleBytes h) ≡ true

@@ -5,13 +5,13 @@ use Prim.Native.Nat.{ℕ, _+_, _≤_, _<_}
 use lib.ListN.{length, getD}
 use Rattle.grid.specs.declared.Grid.{Grid}
 use Rattle.grid.specs.Grid.{limit}
-use Rattle.table.specs.Place.{tableLength}
+use Rattle.layout.specs.Place.{payloadLength}
 use Rattle.cap.specs.Cap.{closing}
 use Rattle.kernel.specs.declared.Kernel.{Kernel}
 
 -- a row of half-width h around a column
 pub record RowReady (g : Grid) (cells : ℕ) (closes centre row h : ℕ) : Type 0 where
-  pub right : cells ≡ tableLength (g .width) (g .height)
+  pub right : cells ≡ payloadLength (g .width) (g .height)
   pub once : closes ≡ closing (g .width)
   pub on : centre < g .width
   pub line : row < g .height
@@ -19,7 +19,7 @@ pub record RowReady (g : Grid) (cells : ℕ) (closes centre row h : ℕ) : Type 
 
 -- every row of the kernel
 pub record CircleReady (g : Grid) (cells : ℕ) (k : Kernel) (widths : List ℕ) (centre : ℕ) : Type 0 where
-  pub right : cells ≡ tableLength (g .width) (g .height)
+  pub right : cells ≡ payloadLength (g .width) (g .height)
   pub on : centre < g .width
   pub lines : g .height ≤ limit
   pub rows : k .north .0 + k .count ≤ g .height

@@ -9,7 +9,7 @@ use lib.Ieee.{Float}
 use Rattle.refusal.specs.Refusal.{Outcome, answered}
 use Rattle.grid.specs.declared.Grid.{Grid}
 use Rattle.grid.specs.Grid.{validGrid}
-use Rattle.table.specs.Place.{tableLength}
+use Rattle.layout.specs.Place.{payloadLength}
 use Rattle.builder.specs.declared.BuiltTable.{BuiltTable}
 use Rattle.builder.specs.Build.{builtTable}
 use Rattle.card.specs.declared.Header.{Header}
@@ -27,7 +27,7 @@ pub record Finished (card : List ℕ) (h : Header) (answer : Outcome BuiltTable)
 -- what a circle is counted on: a valid grid, its whole table, room for a half-width of each row
 pub record Countable (g : Grid) (cells : List Float) (widths : List ℕ) : Type 0 where
   pub grid : validGrid g ≡ true
-  pub right : length cells ≡ tableLength (g .width) (g .height)
+  pub right : length cells ≡ payloadLength (g .width) (g .height)
   pub room : g .height ≤ length widths
 
 -- a text was laid over a buffer from its front on; n is its length

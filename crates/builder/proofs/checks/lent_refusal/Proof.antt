@@ -1,7 +1,7 @@
 -- `builder::checks::lent_refusal` meets its contract.
 -- Assumes nothing.
 use native.Mathlib.Numerals.{add-one}
-use Rattle.table.proofs.Places.{length-held}
+use Rattle.layout.proofs.Places.{length-held}
 use Rattle.decimation.proofs.Factors.{framed}
 use Rattle.builder.specs.Build.{lentRefusal}
 use borrow.Author.Needs.{needs}
@@ -18,7 +18,7 @@ returns c =
     let d = start .args .d in
     let f = framed d (start .pre) in
     let held = length-held (d .grid .width) (d .grid .height) (f .few-columns) (f .few-lines) in
-    simp (c .first3 .ensures, n29 .first2 .ensures, n30 .first .ensures, padded .padded-len .ensures, held, add-one)
+    simp (c .first3 .ensures, n29 .first2 .ensures, n30 .first .ensures, padded .payload-len .ensures, held, add-one)
 
 pub lent-refusal-spec : {M : Type 1} → statement M
 lent-refusal-spec =

@@ -1,25 +1,24 @@
 -- `builder::hand_on::fill` meets its contract.
 -- Assumes nothing.
-use Prim.Native.Nat.{_<_, _*_, _-_}
-use borrow.Author.Needs.{needs, scaled-fits}
-use mathlib.Core.Path.{_≡_, refl, sym, _∙_}
+use mathlib.Core.Path.{_≡_, refl}
+use Prim.Native.Nat.{_<_, _≤_, _*_, _-_}
 use native.Mathlib.Omega.{arith}
 use lib.ListN.{length, length-set}
+use Rattle.layout.proofs.Entries.{copied, entries-turn, entries-end}
 use Rattle.builder.specs.Rows.{sampled}
-use Rattle.builder.proofs.HandedRows.{sampledFrom, sample-turn, sample-end, sample-in}
+use Rattle.builder.proofs.HandedRows.{sample-in}
+use borrow.Author.Needs.{needs, scaled-fits}
 use Rattle.builder.proofs.hand_on.fill.Statement.{statement}
 use Rattle.builder.proofs.hand_on.fill.Tie as tie
 
 abbrev Inv-loop : tie.InvT-loop
-Inv-loop coarse₀ acc factor j₀ coarse j = (length coarse ≡ length coarse₀) × (sampledFrom acc factor coarse j ≡ sampled acc factor 0 (length coarse₀))
+Inv-loop coarse₀ acc factor j₀ coarse j = (length coarse ≡ length coarse₀) × (j ≤ length coarse₀) × (coarse ≡ copied coarse₀ (sampled acc factor coarse₀) j)
 
 abbrev μ-loop : tie.MeasureT-loop
 μ-loop coarse₀ acc factor j₀ coarse j = length coarse₀ - j
 
 loop-holds : tie.Need-loop-holds Inv-loop μ-loop
-loop-holds c =
-    let e : length (c .args .coarse .now) - 0 ≡ length (c .args .coarse .now) = omega arith in
-    (refl, rw e)
+loop-holds c = (refl, search needs, refl)
 
 -- the sample read is within acc
 inside : (c : tie.In-loop Inv-loop μ-loop) → c .before .loop .j * c .before .before .args .factor < length (c .before .before .args .acc .now)
@@ -37,32 +36,15 @@ shared-slice-read-coarse c = inside (c .before)
 
 loop-again : tie.Need-loop-again Inv-loop μ-loop
 loop-again c =
-    let d = c .before .before in
-    let a = d .before .args in (
-      simp length-set (d .loop .inv .0),
-      sample-turn (a .acc .now) (a .factor) (d .loop .coarse) (d .loop .j) (omega arith) ∙ d .loop .inv .1,
-    )
-
-same-length : tie.Need-same-length Inv-loop μ-loop
-same-length c = omega arith
+    let l = c .before .before .loop in
+    let a = c .before .before .before .args in
+    (simp length-set (l .inv .0), omega arith, rw (l .inv .2) (entries-turn _ (a .coarse .now) (l .j) _ (omega arith) refl))
 
 returns : tie.Need-returns Inv-loop μ-loop
-returns c = sym (sample-end _ _ _ _ (c .loop-test .left)) ∙ c .before .loop .inv .1
+returns c = rw (c .before .loop .inv .2) (entries-end _ (c .before .before .args .coarse .now) (c .before .loop .j) (omega arith))
 
 pub fill-spec : {M : Type 1} → statement M
 fill-spec =
     tie.close
-    (tie.spec
-    Inv-loop
-    μ-loop
-    loop-holds
-    mul-coarse
-    mul-coarse-2
-    shared-slice-read-coarse
-    (λ c. search needs)
-    (λ c. search needs)
-    (λ c. search needs)
-    (λ c. search needs)
-    loop-again
-    same-length
-    returns)
+    (tie.spec Inv-loop μ-loop loop-holds mul-coarse mul-coarse-2 shared-slice-read-coarse (λ c. search needs) (λ c. search needs) (λ c. search needs)
+    (λ c. search needs) loop-again (λ c. search needs) returns)

@@ -1,37 +1,36 @@
 -- `builder::hand_on::lay` meets its contract.
 -- Assumes nothing.
-use Prim.Native.Nat.{_+_, _≤_}
+use Prim.Native.Nat.{_<_}
 use native.Mathlib.Omega.{arith}
 use lib.ListN.{length}
-use Rattle.table.proofs.Places.{row-room, laid-back}
+use Rattle.builder.proofs.Laid.{laid-row, run-inside, start-inside}
 use borrow.Author.Needs.{needs}
 use Rattle.builder.proofs.hand_on.lay.Statement.{statement}
 use Rattle.builder.proofs.hand_on.lay.Tie as tie
 
--- the row has room from its place in the table on
-room : (c : tie.After-cell-at) → c .cell-at .result + length (c .before .before .before .args .row .now) ≤ length (c .before .before .before .args .table .now)
-room c =
-    let s = c .before .before .before in
-    omega (arith, c .cell-at .ensures, s .pre .full, row-room (s .args .grid .width) (s .args .grid .height) (s .args .at) _ (s .pre .table) (s .pre .inside))
+-- the row's first cell is in the table
+first : (c : tie.After-cell-at) → c .cell-at .result < length (c .before .before .before .args .table .now)
+first c = let s = c .before .before .before in rw (s .pre .table) (start-inside _ _ _ _ (c .cell-at .ensures) (s .pre .inside))
 
 mul-emit : tie.Need-mul-emit
-mul-emit c = omega (arith, room c)
+mul-emit c = omega (arith, first c)
 
 sub-emit : tie.Need-sub-emit
-sub-emit c = omega (arith, room c)
+sub-emit c = omega (arith, first c)
 
 part-emit-start : tie.Need-part-emit-start
-part-emit-start c = omega (arith, room c)
+part-emit-start c = omega (arith, first c)
 
 emit-requires : tie.Need-emit-requires
-emit-requires c κs = omega (arith, room (c .before))
+emit-requires c κs = λ k l.
+    let s = c .before .before .before .before in
+    run-inside _ _ _ _ k (s .args .table .now) (c .before .cell-at .ensures) (s .pre .table) (s .pre .inside) (rw (s .pre .full) at l)
 
 returns : tie.Need-returns
 returns c =
     let placed = c .before .before .before .before in
-    let s = placed .before .before .before .args in
-    rw (c .before .before .emit .ensures)
-    (laid-back (s .grid .width) (s .at) (placed .cell-at .result) (s .table .now) (s .row .now) (placed .cell-at .ensures) (room placed))
+    let s = placed .before .before .before in
+    rw (c .before .before .emit .ensures) (laid-row _ _ _ (s .args .table .now) (s .args .row .now) (placed .cell-at .ensures) (s .pre .full))
 
 pub lay-spec : {M : Type 1} → statement M
 lay-spec =

@@ -42,22 +42,22 @@ slice-aggregate-row : tie.Need-slice-aggregate-row Inv-loop μ-loop
 slice-aggregate-row c = let b = c .before in front-length _ (b .before .before .before .words-buffer .ensures) (fits b .row)
 
 array-borrow-prefix-acc : tie.Need-array-borrow-prefix-acc Inv-loop μ-loop
-array-borrow-prefix-acc c = let b = c .before in front-inside (zeros-length 4096 (b .before .before .row-buffer .ensures)) (fits b .width)
+array-borrow-prefix-acc c = let b = c .before in front-inside (zeros-length 1024 (b .before .before .row-buffer .ensures)) (fits b .width)
 
 slice-aggregate-acc : tie.Need-slice-aggregate-acc Inv-loop μ-loop
-slice-aggregate-acc c = let b = c .before .before in front-length _ (zeros-length 4096 (b .before .before .row-buffer .ensures)) (fits b .width)
+slice-aggregate-acc c = let b = c .before .before in front-length _ (zeros-length 1024 (b .before .before .row-buffer .ensures)) (fits b .width)
 
 array-borrow-prefix-corr : tie.Need-array-borrow-prefix-corr Inv-loop μ-loop
-array-borrow-prefix-corr c = let b = c .before .before in front-inside (zeros-length 4096 (b .before .row-buffer2 .ensures)) (fits b .width)
+array-borrow-prefix-corr c = let b = c .before .before in front-inside (zeros-length 1024 (b .before .row-buffer2 .ensures)) (fits b .width)
 
 slice-aggregate-corr : tie.Need-slice-aggregate-corr Inv-loop μ-loop
-slice-aggregate-corr c = let b = c .before .before .before in front-length _ (zeros-length 4096 (b .before .row-buffer2 .ensures)) (fits b .width)
+slice-aggregate-corr c = let b = c .before .before .before in front-length _ (zeros-length 1024 (b .before .row-buffer2 .ensures)) (fits b .width)
 
 array-borrow-prefix-coarse : tie.Need-array-borrow-prefix-coarse Inv-loop μ-loop
-array-borrow-prefix-coarse c = let b = c .before .before .before in front-inside (zeros-length 4096 (b .row-buffer3 .ensures)) (fits b .columns)
+array-borrow-prefix-coarse c = let b = c .before .before .before in front-inside (zeros-length 1024 (b .row-buffer3 .ensures)) (fits b .columns)
 
 slice-aggregate-coarse : tie.Need-slice-aggregate-coarse Inv-loop μ-loop
-slice-aggregate-coarse c = let b = c .before .before .before .before in front-length _ (zeros-length 4096 (b .row-buffer3 .ensures)) (fits b .columns)
+slice-aggregate-coarse c = let b = c .before .before .before .before in front-length _ (zeros-length 1024 (b .row-buffer3 .ensures)) (fits b .columns)
 
 -- ---- a start that refuses: never
 

@@ -15,7 +15,7 @@ use Rattle.report.proofs.lines.put_circles.Tie as tie
 
 abbrev Inv-loop : tie.InvT-loop
 Inv-loop card h cells out₀ at grid widths₀ next₀ i₀ out widths next i =
-    (Laid out₀ at (circlesText card h cells i) out next) × (i ≤ h .circles) × (4096 ≡ length widths)
+    (Laid out₀ at (circlesText card h cells i) out next) × (i ≤ h .circles) × (1024 ≡ length widths)
 
 abbrev μ-loop : tie.MeasureT-loop
 μ-loop card h cells out₀ at grid widths₀ next₀ i₀ out widths next i = h .circles - i

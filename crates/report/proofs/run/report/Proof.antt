@@ -11,18 +11,18 @@ use Rattle.report.proofs.run.report.Tie as tie
 array-borrow-prefix-table : tie.Need-array-borrow-prefix-table
 array-borrow-prefix-table c =
     let p = c .before in
-    rw (p .padded-len .ensures) (front-inside (zeros-length 8192 (c .table-buffer .ensures)) (sizes (p .before .before .before .pre) .few))
+    rw (p .payload-len .ensures) (front-inside (zeros-length 8192 (c .table-buffer .ensures)) (sizes (p .before .before .before .pre) .few))
 
 slice-aggregate-table : tie.Need-slice-aggregate-table
 slice-aggregate-table c =
     let p = c .before .before in
-    rw (p .padded-len .ensures) (front-length _ (zeros-length 8192 (c .before .table-buffer .ensures)) (sizes (p .before .before .before .pre) .few))
+    rw (p .payload-len .ensures) (front-length _ (zeros-length 8192 (c .before .table-buffer .ensures)) (sizes (p .before .before .before .pre) .few))
 
 build-requires : tie.Need-build-requires
 build-requires c κs =
     let p = c .before .before .before in
     let s = p .before .before .before in
-    (s .pre, emptied-table (s .pre) (c .before .before .table-buffer .ensures) (p .padded-len .ensures))
+    (s .pre, emptied-table (s .pre) (c .before .before .table-buffer .ensures) (p .payload-len .ensures))
 
 put-circles-requires : tie.Need-put-circles-requires
 put-circles-requires c κs =

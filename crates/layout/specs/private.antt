@@ -1,0 +1,3 @@
+-- What private functions of `layout` go by.
+pub mod Sized
+pub mod Cleared
