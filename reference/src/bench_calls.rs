@@ -26,6 +26,8 @@ const RECTANGLES: usize = 256;
 const CIRCLES: u32 = 32;
 const WORST_CIRCLES: usize = 8;
 const WIDE: usize = 1024;
+/// More cells than a processor learns the branches of when they come again and again.
+const RASTER: usize = 64 * WIDE;
 
 fn between(r: &mut Random, low: f64, high: f64) -> f64 {
     low + (high - low) * ((r.word() >> 11) as f64 / 9007199254740992.0)
@@ -196,7 +198,7 @@ struct BuildRow {
 /// Of eight cells, in any order: one unknown, three `empty` and four populated.
 pub fn build_row(empty: [f32; 3]) -> Box<dyn Call> {
     let mut r = Random(7);
-    let floats: Vec<f32> = (0..COUNT)
+    let floats: Vec<f32> = (0..RASTER)
         .map(|_| match r.below(8) {
             0 => f32::from_bits(plain::NODATA),
             i @ 1..=3 => empty[i as usize - 1],
