@@ -1,4 +1,5 @@
 // The builder of a summed-area table: a start, a row call for each source row, a finish (table.rs).
+#![tactic(auto)]
 mod build;
 mod checks;
 mod hand_on;
@@ -7,7 +8,7 @@ use decimation::Decimation;
 use raster::CellTallies;
 
 // What a build goes by from call to call, beside the buffers that each call is lent.
-#[derive(Drop)]
+#[derive(Clone, Copy)]
 pub struct Builder {
     pub decimation: Decimation,
     pub nodata: u32,
@@ -17,7 +18,7 @@ pub struct Builder {
 }
 
 // What a finish reports.
-#[derive(Drop)]
+#[derive(Clone, Copy)]
 pub struct BuiltTable {
     pub digest: u64,
     pub tallies: CellTallies,
@@ -26,20 +27,20 @@ pub struct BuiltTable {
 }
 
 // What the calls give: an answer, or the refusal's number.
-#[derive(Drop)]
+#[derive(Clone, Copy)]
 pub enum BuilderAnswer {
     Accepted(Builder),
     Refused(u32),
 }
 
-#[derive(Drop)]
+#[derive(Clone, Copy)]
 pub enum FinishAnswer {
     Finished(BuiltTable),
     Refused(u32),
 }
 
 // The lengths of what a call is lent.
-#[derive(Drop)]
+#[derive(Clone, Copy)]
 struct Lengths {
     acc: usize,
     corr: usize,

@@ -1,5 +1,6 @@
 // A spherical cap: whether it reaches a row, and the half-width of the row, an estimate and the walk that corrects it
 // (Cap of kernel.rs).
+#![tactic(auto)]
 ghost use Rattle.std.specs.Prelude.{◌≡◌, min, ◌≤◌};
 ghost use Rattle.cap.specs.Walks.{climbed, descended};
 ghost use Rattle.cap.specs.Terms.{lon_term, cap_terms, row_terms, within_angle, contained_by, reached_by};
@@ -7,7 +8,7 @@ ghost use Rattle.cap.specs.Terms.{edge_ratio_by, edge_columns_by, estimated_by, 
 ghost use Rattle.cap.specs.Cap.{closing as closingOf};
 
 // A centre's latitude in degrees, the radius as an angle, the grid's columns.
-#[derive(Drop)]
+#[derive(Clone, Copy)]
 pub struct Cap {
     pub angle_rad: f64,
     pub centre_lat: f64,
@@ -16,7 +17,7 @@ pub struct Cap {
 }
 
 // What all rows of a cap share. A term is a haversine's: sin² of half a difference in latitude or in longitude.
-#[derive(Drop)]
+#[derive(Clone, Copy)]
 pub struct CapTerms {
     pub angle_rad: f64,
     pub lon_step: f64,
@@ -29,7 +30,7 @@ pub struct CapTerms {
 }
 
 // What all cells of a row share.
-#[derive(Drop)]
+#[derive(Clone, Copy)]
 struct RowTerms {
     lat_rad: f64,
     lat_term: f64,

@@ -1,4 +1,5 @@
 // The card (document 01): its header with its checks, and its words.
+#![tactic(auto)]
 mod read;
 mod words;
 
@@ -6,7 +7,7 @@ use decimation::Decimation;
 pub use read::read_header;
 pub use words::{circle_at, u32_at};
 
-#[derive(Drop)]
+#[derive(Clone, Copy)]
 pub struct Header {
     pub decimation: Decimation,
     pub nodata: u32,
@@ -16,7 +17,7 @@ pub struct Header {
 }
 
 // A circle as the card has it: nothing of it is tested yet.
-#[derive(Drop)]
+#[derive(Clone, Copy)]
 pub struct CardCircle {
     pub row: u32,
     pub col: u32,
@@ -24,7 +25,7 @@ pub struct CardCircle {
 }
 
 // What a header call gives: the header, or the refusal's number.
-#[derive(Drop)]
+#[derive(Clone, Copy)]
 pub enum HeaderAnswer {
     Accepted(Header),
     Refused(u32),

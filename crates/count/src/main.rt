@@ -1,11 +1,12 @@
 // Reads a card from standard input and prints what it counts (document 01, 'The card').
 // A program has no exit status: what could not be read or written is said on standard error.
+#![tactic(auto)]
 ghost use Rattle.std.specs.Prelude.{◌≡◌, ◌≤◌, length};
 ghost use Rattle.count.specs.Input.{bytes_read};
 
 use libc::{STDIN_FILENO, STDOUT_FILENO};
 
-#[derive(Drop)]
+#[derive(Clone, Copy)]
 enum Input {
     Bytes(usize),
     Failed,

@@ -1,4 +1,5 @@
 // A factor, and the coarse grid that it makes of a source grid (`Decimation` of table.rs).
+#![tactic(auto)]
 ghost use Rattle.std.specs.Prelude.{◌≡◌};
 ghost use Rattle.refusal.specs.Refusal.{outcome};
 ghost use Rattle.grid.specs.Grid.{grid_outcome};
@@ -8,7 +9,7 @@ use geodesy::LatLon;
 use grid::{Grid, GridAnswer};
 
 // A source grid, the factor, and the coarse grid. `Decimation::new` checks them.
-#[derive(Drop)]
+#[derive(Clone, Copy)]
 pub struct Decimation {
     pub factor: u32,
     pub source: Grid,
@@ -16,7 +17,7 @@ pub struct Decimation {
 }
 
 // What a decimation call gives: the decimation, or the refusal's number.
-#[derive(Drop)]
+#[derive(Clone, Copy)]
 pub enum DecimationAnswer {
     Made(Decimation),
     Refused(u32),

@@ -1,14 +1,15 @@
 // A circle's radius in km (RadiusKm of geodesy.rs).
+#![tactic(auto)]
 ghost use Rattle.std.specs.Prelude.{◌≡◌};
 ghost use Rattle.float.specs.Float.{f64of};
 ghost use Rattle.radius.specs.Radius.{radius_outcome, radius_refusal, radius_new, valid_radius, widened as widenedOf, widened_by};
 
 // `RadiusKm::new` checks it.
-#[derive(Drop)]
+#[derive(Clone, Copy)]
 pub struct RadiusKm(pub f64);
 
 // What a radius call gives: the radius, or the refusal's number.
-#[derive(Drop)]
+#[derive(Clone, Copy)]
 pub enum RadiusAnswer {
     Made(RadiusKm),
     Refused(u32),

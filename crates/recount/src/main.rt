@@ -1,5 +1,6 @@
 // Counts the cards 00, 01, .. of its folder one after another, as `count` counts one: a card for each refusal and limit.
 // reference/README.md has the list.
+#![tactic(auto)]
 ghost use Rattle.std.specs.Prelude.{◌≡◌, ◌<◌, length};
 
 use libc::STDOUT_FILENO;

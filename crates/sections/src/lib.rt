@@ -1,11 +1,12 @@
 // Where a card's sections may stand: inside the card, and over neither its header nor each other.
+#![tactic(auto)]
 ghost use Rattle.std.specs.Prelude.{◌≡◌};
 ghost use Rattle.sections.specs.Sections.{inside, disjoint, sections_apart, section_refusal};
 
 use refusal::first;
 
 // Bytes of a card, from `start` on; `end` is the first behind them.
-#[derive(Drop)]
+#[derive(Clone, Copy)]
 pub struct ByteRange {
     pub start: u64,
     pub end: u64,

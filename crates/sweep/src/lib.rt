@@ -1,4 +1,5 @@
 // A row goes into the column sums and the digest (`build` of table.rs).
+#![tactic(auto)]
 ghost use Rattle.std.specs.Prelude.{◌≡◌, ◌++◌, ◌≤◌, ◌-◌, min, length, take, drop};
 ghost use Rattle.digest.specs.Digest.{digest_of};
 ghost use Rattle.raster.specs.Raster.{sanitised_row, row_tallies, plus_tallies, held_tallies};
@@ -9,14 +10,14 @@ use float::TwoSum;
 use raster::CellTallies;
 
 // What a row gives: the digest with its cells, and its tallies.
-#[derive(Drop)]
+#[derive(Clone, Copy)]
 pub struct Swept {
     pub digest: u64,
     pub tallies: CellTallies,
 }
 
 // What a row carries from cell to cell: its running prefix with its correction, the digest, the tallies.
-#[derive(Drop)]
+#[derive(Clone, Copy)]
 struct Carry {
     prefix: f64,
     corr: f64,
@@ -25,7 +26,7 @@ struct Carry {
 }
 
 // A column after a cell, the cell as sanitised, and what the row carries on.
-#[derive(Drop)]
+#[derive(Clone, Copy)]
 struct Column {
     acc: f64,
     corr: f64,

@@ -1,0 +1,17 @@
+-- `builder::build::clear` meets its contract.
+-- Assumes nothing.
+use mathlib.Core.Path.{◌≡◌, refl}
+use Prim.Native.Nat.{◌≤◌, ◌-◌}
+use native.Mathlib.Omega.{arith}
+use lib.ListN.{length, replicate, length-set, length-replicate, get_or-replicate}
+use lib.Ieee.{nan}
+use Rattle.float.specs.Float.{f64zero}
+use Rattle.layout.proofs.Entries.{copied, copy_turn, copy_end}
+use borrow.Author.Rules.{rules}
+use Rattle.builder.proofs.build.clear.Given as goal
+
+abbrev pub invariant-loop-i : goal.invariant-loop-i
+invariant-loop-i l = (length l.cells ≡ length l.initial.cells) × (l.i ≤ length l.initial.cells) × (l.cells ≡ copied l.initial.cells (replicate (length l.initial.cells) f64zero) l.i)
+
+abbrev pub decreases-loop-i : goal.decreases-loop-i
+decreases-loop-i l = length l.initial.cells - l.i

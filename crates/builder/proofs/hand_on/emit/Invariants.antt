@@ -1,0 +1,16 @@
+-- `builder::hand_on::emit` meets its contract.
+-- Assumes nothing.
+use mathlib.Core.Path.{◌≡◌, refl, ◌∙◌}
+use Prim.Native.Nat.{◌+◌, ◌*◌, ◌-◌, ◌/◌, ◌%◌, ◌≤◌}
+use native.Mathlib.Omega.{arith}
+use lib.ListN.{length}
+use Rattle.builder.specs.private.Runs.{laid_runs}
+use Rattle.builder.proofs.Laid.{run_fits, run_turn, run_end}
+use borrow.Author.Rules.{rules}
+use Rattle.builder.proofs.hand_on.emit.Given as goal
+
+abbrev pub invariant-loop-c : goal.invariant-loop-c
+invariant-loop-c l = (length l.dst ≡ length l.src) × (l.c ≤ l.initial.dst) × (l.c % 8 ≡ 0) × (l.dst ≡ laid_runs 0 l.src l.whole 0 l.c)
+
+abbrev pub decreases-loop-c : goal.decreases-loop-c
+decreases-loop-c l = l.initial.dst - l.c

@@ -1,0 +1,17 @@
+-- `builder::hand_on::fill` meets its contract.
+-- Assumes nothing.
+use mathlib.Core.Path.{◌≡◌, refl}
+use Prim.Native.Nat.{◌<◌, ◌≤◌, ◌*◌, ◌-◌}
+use native.Mathlib.Omega.{arith}
+use lib.ListN.{length, length-set}
+use Rattle.layout.proofs.Entries.{copied, entries_turn, entries_end}
+use Rattle.builder.specs.Rows.{sampled}
+use Rattle.builder.proofs.HandedRows.{sample_in}
+use borrow.Author.Rules.{rules, scaled_Fits}
+use Rattle.builder.proofs.hand_on.fill.Given as goal
+
+abbrev pub invariant-loop-j : goal.invariant-loop-j
+invariant-loop-j l = (length l.coarse ≡ length l.acc) × (l.j ≤ length l.acc) × (l.coarse ≡ copied l.acc (sampled l.factor l.initial.coarse l.acc) l.j)
+
+abbrev pub decreases-loop-j : goal.decreases-loop-j
+decreases-loop-j l = length l.acc - l.j

@@ -1,0 +1,18 @@
+-- `builder::hand_on::rest` meets its contract.
+-- Assumes nothing.
+use mathlib.Core.Path.{◌≡◌, refl}
+use Prim.Native.Nat.{◌+◌, ◌*◌, ◌-◌, ◌/◌, ◌%◌, ◌≤◌, ◌<◌}
+use native.Mathlib.Nat.{sub_self}
+use native.Mathlib.Omega.{arith}
+use lib.ListN.{length, length-set}
+use Rattle.layout.specs.Place.{run_at}
+use Rattle.builder.specs.private.Runs.{laid_runs}
+use Rattle.builder.proofs.Laid.{rest_turn}
+use borrow.Author.Rules.{rules, scaled_Fits}
+use Rattle.builder.proofs.hand_on.rest.Given as goal
+
+abbrev pub invariant-loop-c : goal.invariant-loop-c
+invariant-loop-c l = (length l.dst ≡ length l.src) × (l.c ≤ length l.from) × (l.initial.dst ≤ l.c) × (l.dst ≡ laid_runs 0 l.src l.from l.initial.dst (l.c - l.initial.dst))
+
+abbrev pub decreases-loop-c : goal.decreases-loop-c
+decreases-loop-c l = length l.from - l.c

@@ -1,0 +1,10 @@
+-- `cap::row_terms` meets its contract.
+-- Assumes nothing.
+use Rattle.cap.specs.Terms.{row_terms}
+use borrow.Author.Rules.{rules}
+use Rattle.cap.proofs.row_terms.Goals as goal
+
+pub returns : goal.returns
+unfolding row_terms
+returns c =
+    rw (c.cos.ensures, c.sin-half.ensures, c.to_radians-lat_rad.ensures)

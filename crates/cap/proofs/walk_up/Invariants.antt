@@ -1,0 +1,18 @@
+-- `cap::walk_up` meets its contract.
+-- Assumes nothing.
+use mathlib.Core.Path.{◌≡◌, refl, sym, ◌∙◌}
+use native.Mathlib.Omega.{arith}
+use Prim.Native.Nat.{◌≤◌, ◌-◌}
+use borrow.Author.Tests.{not-true, not-false}
+use Rattle.cap.specs.Terms.{contained_by}
+use Rattle.cap.specs.Walks.{climbed}
+use Rattle.cap.proofs.Steps.{climb_turn, climb_out, climb_end}
+use borrow.Author.Rules.{rules}
+use Rattle.cap.proofs.walk_up.Given as goal
+
+abbrev pub invariant-loop-h : goal.invariant-loop-h
+invariant-loop-h l =
+    (l.h ≤ l.cap.closing) × (climbed (contained_by l.cap l.row) l.cap.closing l.h ≡ climbed (contained_by l.cap l.row) l.cap.closing l.start)
+
+abbrev pub decreases-loop-h : goal.decreases-loop-h
+decreases-loop-h l = l.cap.closing - l.h

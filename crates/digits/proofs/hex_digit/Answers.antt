@@ -1,0 +1,10 @@
+-- `digits::hex_digit` meets its contract.
+-- Assumes nothing.
+use Rattle.std.proofs.Common.{rules, le-ltb, lt-ltb}
+use Rattle.digits.proofs.hex_digit.Goals as goal
+
+pub returns-then-d-lt10 : goal.returns-then-d-lt10
+returns-then-d-lt10 c = simp (lt-ltb _ _ c.if-d-lt10.true)
+
+pub returns-else-d-lt10 : goal.returns-else-d-lt10
+returns-else-d-lt10 c = simp (le-ltb _ _ c.if-d-lt10.false)

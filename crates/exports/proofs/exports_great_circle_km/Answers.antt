@@ -1,0 +1,7 @@
+-- `exports::exports_great_circle_km` meets its contract.
+-- Assumes nothing.
+use borrow.Author.Rules.{rules}
+use Rattle.exports.proofs.exports_great_circle_km.Goals as goal
+
+pub returns : goal.returns
+returns c = simp (c.km_or_minus_one.ensures, c.great_circle_km.ensures)

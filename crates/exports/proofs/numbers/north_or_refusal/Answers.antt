@@ -1,0 +1,8 @@
+-- `exports::numbers::north_or_refusal` meets its contract.
+-- Assumes nothing.
+use mathlib.Core.Path.{refl}
+use borrow.Author.Rules.{rules}
+use Rattle.exports.proofs.numbers.north_or_refusal.Goals as goal
+
+pub returns-in-Refused : goal.returns-in-Refused
+returns-in-Refused c = rw c.answer-in-Refused-1.given.1 refl

@@ -1,0 +1,13 @@
+-- `geodesy::sphere::cosine_divisor` meets its contract.
+-- Assumes nothing.
+use mathlib.Core.Path.{refl}
+use native.Mathlib.Omega.{arith}
+use borrow.Author.Rules.{rules}
+use Rattle.stand_ins.proofs.Laws.{product_small}
+use Rattle.geodesy.proofs.sphere.cosine_divisor.Goals as goal
+
+pub overflow_mul-result-3 : goal.overflow_mul-result-3
+overflow_mul-result-3 c = product_small _ _ (omega arith) (omega arith)
+
+pub returns : goal.returns
+returns c = refl

@@ -1,0 +1,9 @@
+-- `geodesy::sphere::distance_rad` meets its contract.
+-- Assumes nothing.
+use borrow.Author.Rules.{rules}
+use Rattle.geodesy.specs.Sphere.{distance_rad}
+use Rattle.geodesy.proofs.sphere.distance_rad.Goals as goal
+
+pub returns : goal.returns
+unfolding distance_rad
+returns c = rw (c.angle_of.ensures, c.haversine.ensures)

@@ -1,0 +1,15 @@
+-- `grid::Grid::lat_bounds` meets its contract.
+-- Assumes nothing.
+use Rattle.grid.specs.Lookup.{lat_bounds_call}
+use Rattle.refusal.proofs.Chains.{refused_by}
+use borrow.Author.Rules.{rules}
+use Rattle.grid.proofs.Grid.lat_bounds.Goals as goal
+
+pub returns-then-n-ne-PASSED : goal.returns-then-n-ne-PASSED
+unfolding lat_bounds_call
+returns-then-n-ne-PASSED c = rw (← c.row_check.ensures, ← c.grid_check-n.ensures) (refused_by _ _ c.if-n-ne-PASSED.true)
+
+pub returns : goal.returns
+unfolding lat_bounds_call
+returns c =
+    simp (← c.row_check.ensures, ← c.grid_check-n.ensures, c.if-n-ne-PASSED.false, c.lat_band.ensures)

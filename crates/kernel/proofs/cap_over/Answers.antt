@@ -1,0 +1,9 @@
+-- `kernel::cap_over` meets its contract.
+-- Assumes nothing.
+use Rattle.kernel.specs.Kernel.{cap_over}
+use borrow.Author.Rules.{rules}
+use Rattle.kernel.proofs.cap_over.Goals as goal
+
+pub returns : goal.returns
+unfolding cap_over
+returns c = rw (c.min.ensures, c.central_angle_rad.ensures)

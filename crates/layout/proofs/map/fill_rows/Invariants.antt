@@ -1,0 +1,24 @@
+-- `layout::map::fill_rows` meets its contract.
+-- Assumes nothing.
+use mathlib.Core.Path.{◌≡◌, refl, ap, ◌∙◌}
+use Prim.Native.Nat.{suc, ◌-◌, ◌<◌, ◌≤◌}
+use native.Mathlib.Numerals.{add-one}
+use native.Mathlib.Omega.{arith}
+use lib.ListN.{length, length-set}
+use Rattle.layout.specs.Place.{cell_at, corner}
+use Rattle.layout.specs.Rows.{row_cell_at}
+use Rattle.layout.specs.Map.{to_rows}
+use Rattle.layout.proofs.Entries.{copied}
+use Rattle.layout.proofs.Places.{cell_inside}
+use Rattle.layout.proofs.Rows.{first_row_place}
+use Rattle.layout.proofs.Maps.{row_on, row_turn, row_end}
+use borrow.Author.Rules.{rules, scaled_Fits}
+use Rattle.layout.proofs.map.fill_rows.Given as goal
+
+abbrev pub invariant-loop-at : goal.invariant-loop-at
+invariant-loop-at l =
+    (length l.rows ≡ length l.initial.rows) × (l.at ≤ length l.initial.rows) × (row_cell_at l.grid.width l.cell.row l.cell.col ≡ l.at) × (l.cell.col ≤ l.grid.width)
+    × (l.rows ≡ copied l.initial.rows (to_rows l.grid.width l.grid.height l.blocks) l.at)
+
+abbrev pub decreases-loop-at : goal.decreases-loop-at
+decreases-loop-at l = length l.initial.rows - l.at

@@ -1,0 +1,19 @@
+-- `layout::start::clear_from` meets its contract.
+-- Assumes nothing.
+use mathlib.Core.Path.{◌≡◌, refl, ◌∙◌}
+use Prim.Native.Nat.{suc, ◌*◌, ◌-◌, ◌≤◌}
+use native.Mathlib.Omega.{arith}
+use lib.ListN.{length}
+use Rattle.layout.specs.Place.{blocks_over}
+use Rattle.layout.specs.private.Cleared.{cleared_from}
+use Rattle.layout.proofs.Places.{few_blocks, row_spans}
+use Rattle.layout.proofs.Cleared.{clear_start, clear_turn}
+use borrow.Author.Rules.{rules}
+use Rattle.layout.proofs.start.clear_from.Given as goal
+
+abbrev pub invariant-loop-col : goal.invariant-loop-col
+invariant-loop-col l =
+    (length l.table ≡ length l.width) × (l.initial.table ≤ l.col) × (l.col ≤ blocks_over l.row * 8) × (l.table ≡ cleared_from l.row l.width l.from l.col)
+
+abbrev pub decreases-loop-col : goal.decreases-loop-col
+decreases-loop-col l = l.col

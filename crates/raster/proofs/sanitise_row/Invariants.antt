@@ -1,0 +1,24 @@
+-- `raster::sanitise_row` meets its contract. The invariant: what the row is below i, then what becomes of the rest, is what
+-- becomes of the whole row; and so of the tallies.
+-- Assumes nothing.
+use mathlib.Core.Path.{◌≡◌, refl, sym, ◌∙◌, ap}
+use mathlib.Core.List.{map}
+use Prim.Native.Nat.{◌≤◌, ◌<◌, ◌-◌}
+use native.Mathlib.Omega.{arith}
+use lib.ListN.{length, drop, get_or, length-set, drop_of_length-le}
+use borrow.Author.Rules.{rules}
+use Rattle.raster.specs.Raster.{sanitised, row_tallies, cells_of, tallied, kind_of}
+use Rattle.raster.proofs.Tallies.{tallies_from, one_more, tallies_held}
+use Rattle.raster.proofs.Turn.{map_from, map_turn, map_end, tallies_turn}
+use Rattle.raster.proofs.sanitise_row.Given as goal
+
+abbrev pub invariant-loop-i : goal.invariant-loop-i
+invariant-loop-i l =
+    (length l.row ≡ length l.nodata)
+    × (l.i ≤ length l.nodata)
+    × (map_from (sanitised l.initial.row) l.row l.i ≡ map (sanitised l.initial.row) l.nodata)
+    × (tallies_from l.initial.row l.t (drop l.i l.row) ≡ row_tallies l.initial.row l.nodata)
+    × (cells_of l.t ≡ l.i)
+
+abbrev pub decreases-loop-i : goal.decreases-loop-i
+decreases-loop-i l = length l.nodata - l.i

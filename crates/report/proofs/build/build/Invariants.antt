@@ -1,0 +1,19 @@
+-- `report::build::build` meets its contract.
+-- Assumes nothing.
+use mathlib.Core.Path.{◌≡◌, refl, sym, ◌∙◌}
+use Prim.Native.Nat.{◌≤◌, ◌-◌}
+use native.Mathlib.Omega.{arith}
+use lib.ListN.{length}
+use Rattle.builder.specs.Build.{buffers}
+use Rattle.report.proofs.Sizes.{front_inside, front_length, zeros_length, Sizes, sizes, emptied}
+use Rattle.report.proofs.Building.{BuiltRows, never_refused, started, row_taken, finished}
+use borrow.Author.Rules.{rules}
+use Rattle.report.proofs.build.build.Given as goal
+
+abbrev pub invariant-loop-built : goal.invariant-loop-built
+invariant-loop-built l =
+    (BuiltRows l.card l.h l.built (buffers l.acc l.corr l.coarse l.table)) × (l.built.rows ≤ l.h.decimation.source.height)
+    × (length l.row ≡ l.h.decimation.source.width) × (length l.table ≡ length l.height)
+
+abbrev pub decreases-loop-built : goal.decreases-loop-built
+decreases-loop-built l = l.h.decimation.source.height - l.built.rows

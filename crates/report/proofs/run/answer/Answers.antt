@@ -1,0 +1,22 @@
+-- `report::run::answer` meets its contract.
+-- Assumes nothing.
+use mathlib.Core.Path.{sym}
+use Rattle.card.proofs.Headers.{accepted}
+use Rattle.report.specs.Printed.{printed}
+use borrow.Author.Rules.{rules}
+use Rattle.report.proofs.run.answer.Goals as goal
+
+pub report-requires : goal.report-requires
+report-requires c = accepted _ _ (sym (rw c.header-1.given.1 at c.read_header-header.ensures))
+
+pub returns-in-Accepted : goal.returns-in-Accepted
+unfolding printed
+returns-in-Accepted c =
+    let report = c.report.ensures in
+    rw (← rw c.header-1.given.1 at c.read_header-header.ensures) (report.size, report.left, report.bounded)
+
+pub returns-in-Refused : goal.returns-in-Refused
+unfolding printed
+returns-in-Refused c =
+    let Put-refused = c.Put-refused.ensures in
+    rw (← rw c.header-in-Refused-1.given.1 at c.read_header-header.ensures) (Put-refused.size, Put-refused.left, Put-refused.bounded)

@@ -1,0 +1,14 @@
+-- `sqrt::by_digits` meets its contract. The invariant: the square of the root so far and the remainder are the digits that came
+-- down, and `rest` holds those that are left.
+-- Assumes nothing.
+use Rattle.std.proofs.Common.{◌≡◌, ℕ, zero, suc, ◌+◌, ◌-◌, ◌*◌, ◌/◌, ◌%◌, ◌^◌, ◌<◌, ◌≤◌, ◌⊎◌, sym, ap, ◌∙◌, subst, inl, inr, ⊎_elim, lt_of_lt_of_le, mul_assoc, eq-zero-or-pos, mul-div_cancel, mul_left_comm, add-one, arith, pow_pos, pow_mono}
+use native.Mathlib.Nat.{pow-succ'}
+use Rattle.sqrt.specs.private.Steps.{Closest}
+use Rattle.sqrt.proofs.Squares.{square_twice, square_next, square_product, square_middle}
+use Rattle.sqrt.proofs.by_digits.Given as goal
+
+abbrev pub invariant-loop-i : goal.invariant-loop-i
+invariant-loop-i l = Down l.v l.rest l.root l.rem l.i × (l.i ≤ 54)
+
+abbrev pub decreases-loop-i : goal.decreases-loop-i
+decreases-loop-i l = 54 - l.i

@@ -1,0 +1,15 @@
+-- `stand_ins::sine_term` meets its contract.
+-- Assumes nothing.
+use mathlib.Core.Path.{refl}
+use native.Mathlib.Omega.{arith}
+use borrow.Author.Rules.{rules}
+use Rattle.stand_ins.specs.StandIns.{sine_term}
+use Rattle.stand_ins.proofs.Laws.{product_small}
+use Rattle.stand_ins.proofs.sine_term.Goals as goal
+
+pub overflow_mul-result-3 : goal.overflow_mul-result-3
+overflow_mul-result-3 c = product_small _ _ (omega arith) (omega arith)
+
+pub returns : goal.returns
+unfolding sine_term
+returns c = refl

@@ -1,0 +1,21 @@
+-- `sweep::sweep_row` meets its contract. The invariant: what is done, then what becomes of the rest, is what becomes of the whole.
+-- Assumes nothing.
+use mathlib.Core.Path.{◌≡◌, refl, sym, ◌∙◌}
+use native.Mathlib.Omega.{arith}
+use Prim.Native.Nat.{◌≤◌, ◌-◌}
+use lib.ListN.{length, drop, length-set}
+use Rattle.raster.proofs.Tallies.{parts_held}
+use Rattle.sweep.proofs.Sweeps.{Midway, start, turn, end_acc, end_corr}
+use borrow.Author.Rules.{rules}
+use Rattle.sweep.proofs.sweep_row.Given as goal
+
+abbrev pub invariant-loop-i : goal.invariant-loop-i
+invariant-loop-i l =
+    (length l.acc ≡ length l.nodata)
+    × (length l.corr ≡ length l.digest)
+    × (length l.row ≡ length l.n)
+    × (l.i ≤ l.initial.row)
+    × Midway l.initial.acc l.initial.corr l.n l.nodata l.digest l.acc l.corr l.row l.s l.i
+
+abbrev pub decreases-loop-i : goal.decreases-loop-i
+decreases-loop-i l = l.initial.row - l.i

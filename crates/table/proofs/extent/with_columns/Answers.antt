@@ -1,0 +1,31 @@
+-- `table::extent::with_columns` meets its contract.
+-- Assumes nothing.
+use borrow.Author.Rules.{rules}
+use Rattle.table.proofs.extent.with_columns.Goals as goal
+
+pub returns-then-window : goal.returns-then-window
+returns-then-window c = simp c.if-window.true
+
+pub returns-in-Refused : goal.returns-in-Refused
+returns-in-Refused c =
+    simp (c.if-window.false, ← c.cell-first.ensures, c.first-1.given.1)
+
+pub returns-in-Refused-last : goal.returns-in-Refused-last
+returns-in-Refused-last c =
+    simp (
+      c.if-window.false,
+      ← c.cell-first.ensures,
+      c.first-in-Cell-1.given.1,
+      ← c.cell-last.ensures,
+      c.last-1.given.1,
+    )
+
+pub returns : goal.returns
+returns c =
+    simp (
+      c.if-window.false,
+      ← c.cell-first.ensures,
+      c.first-in-Cell-1.given.1,
+      ← c.cell-last.ensures,
+      c.last-in-Cell-last-1.given.1,
+    )

@@ -1,0 +1,11 @@
+-- `text::rows_line` meets its contract.
+-- Assumes nothing.
+use Rattle.digits.proofs.Laying.{laid_then}
+use Rattle.text.specs.Text.{rows_line}
+use borrow.Author.Rules.{rules}
+use Rattle.text.proofs.rows_line.Goals as goal
+
+pub returns : goal.returns
+unfolding rows_line
+returns c =
+    laid_then c.put_bytes-a.ensures c.put_number.ensures
