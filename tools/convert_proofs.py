@@ -114,7 +114,7 @@ def convert(path, of, module):
     # group: signature, unfolding, equations
     decls = []
     for comments, b in items:
-        m = re.match(r"((?:abbrev|pub|unfoldable)\s+)*(%s)" % NAME, b)
+        m = re.match(r"((?:abbrev|pub|unfoldable|record|data)\s+)*(%s)" % NAME, b)
         name = m.group(2)
         if b.startswith("unfolding"):
             decls[-1]["unfold"] = b.strip()
@@ -157,6 +157,12 @@ def convert(path, of, module):
     args = split_args(rest[:cut])
     inv_names = {d["name"] for d, _, _ in inv}
     args = [a for a in args if a not in inv_names]
+    for at, kind in enumerate(["invariant", "decreases"] * len(loops) if not inv else []):
+        m = re.match(r"\(λ ([^.]*)\.\s*(.*)\)$", args[at], re.S)
+        loop = loops[at // 2][0][0]
+        inv.append(({"name": "x", "sig": "", "eqs": [f"x {m.group(1)} = {m.group(2)}"], "unfold": None, "comments": []}, kind, loop))
+    if not inv_names:
+        args = args[2 * len(loops) :]
     needs = of["needs"]
     by_pos = len(args) == len(needs)
     olds = {}
@@ -175,7 +181,7 @@ def convert(path, of, module):
     extra = []
     for i, a in enumerate(args):
         if by_pos and a.startswith("("):
-            m = re.match(r"\(λ c(?: κs)?\.\s*(.*)\)$", a, re.S)
+            m = re.match(r"\(λ (?:c|_)(?: κs| _)?\.\s*(.*)\)$", a, re.S)
             if m and m.group(1).strip() != "search rules":
                 extra.append((needs[i][1], m.group(1).strip()))
             elif not m:
@@ -198,7 +204,7 @@ def convert(path, of, module):
         fixed = [v for v, c in zip(vars_, changed) if not c]
         moved = [v for v, c in zip(vars_, changed) if c]
         want = len(fixed) + 2 * len(moved)
-        targets = ["l." + v for v in fixed] + ["l.initial." + v for v in moved] + ["l." + v for v in moved]
+        targets = [("l.initial." if c else "l.") + v for v, c in zip(vars_, changed)] + ["l." + v for v in moved]
         note = ""
         if want != len(params):
             note = f"-- CHECK: {len(params)} parameters {params} for {targets}\n"
@@ -228,9 +234,22 @@ def convert(path, of, module):
         names = {}
         t = "\n".join(head) + "\n" + "\n".join(use_all) + f"\nuse {module}.Given as goal\n"
         used = " ".join(x[3] for x in inv_text)
-        local = [d for d in others if re.search(r"(?<![\w.-])%s(?![\w-])" % re.escape(d["name"]), used)]
+        local = []
+        while True:
+            more = [d for d in others if d not in local and re.search(r"(?<![\w.-])%s(?![\w-])" % re.escape(d["name"]), used)]
+            if not more:
+                break
+            local += more
+            used += " ".join(fmt_decl(d) for d in more)
+        local = [d for d in others if d in local]
         for d in local:
-            t += "\n" + re.sub(r"^(abbrev )?(pub )?", "abbrev pub ", fmt_decl(d), count=1) + "\n"
+            text = fmt_decl(d)
+            if re.match(r"(pub )?record", text):
+                text = re.sub(r"^(pub )?record", "pub record", text)
+                text = re.sub(r"(?m)^(  )(?!pub |--)(\S+ :)", r"\1pub \2", text)
+                t += "\n" + text + "\n"
+            else:
+                t += "\n" + re.sub(r"^(abbrev )?(pub )?", "abbrev pub ", text, count=1) + "\n"
         for note, kind, new, body in inv_text:
             t += f"\n{note}abbrev pub {kind}-{new} : goal.{kind}-{new}\n{kind}-{new} l ={body}\n"
         open(os.path.join(folder, "Invariants.antt"), "w", encoding="utf-8").write(t)
@@ -253,6 +272,12 @@ def convert(path, of, module):
         for new, body in extra:
             t += f"\npub {new} : goal.{new}\n{new} c = " + (inline(paths(body, table)) if body else "?") + "\n"
         open(os.path.join(folder, "Answers.antt"), "w", encoding="utf-8").write(t)
+    for name in ["Invariants.antt", "Answers.antt"]:
+        it = os.path.join(folder, name)
+        if os.path.exists(it):
+            said = open(it, encoding="utf-8").read()
+            turned = re.sub(r"\.well-formed\b", ".well_formed", re.sub(r"\.type-inv\b", ".type_inv", said))
+            open(it, "w", encoding="utf-8").write(turned)
     os.remove(path)
     return by_pos, unknown, [d["name"] for d in others if "tie." in fmt_decl(d)]
 

@@ -87,6 +87,10 @@ rem_units f (fin s' m e) (fin t' n d) s t a b c hb hc v w =
     (round_same f s (m * up e * down d % (n * up d * down e)) (down e * down d) (a % b) c (mul-pos (down_pos e) (down_pos d)) hc
     (scaled (m * up e * down d) (n * up d * down e) c a b (down e * down d) q hc hb (mul-pos (down_pos e) (down_pos d))
     (cross m (up e) c a (down e) (down d) v.1) g))
+rem_units f nan y s t a b c hb hc v w = elim v [ ]
+rem_units f (inf _) y s t a b c hb hc v w = elim v [ ]
+rem_units f (fin s' m e) nan s t a b c hb hc v w = elim w [ ]
+rem_units f (fin s' m e) (inf _) s t a b c hb hc v w = elim w [ ]
 
 unlike_false : (s : Bool) → unlike false s ≡ s
 unlike_false true = refl
@@ -101,10 +105,16 @@ mul_units f (fin s' m e) (fin t' n d) s a b c hc v w =
     rw (v.0, w.0, unlike_false s)
     (round_same f s (m * up e * (n * up d)) (down e * down d) (a * b) c (mul-pos (down_pos e) (down_pos d)) hc
     (products (m * up e) (n * up d) c a b (down e) (down d) v.1 w.1))
+mul_units f nan y s a b c hc v w = elim v [ ]
+mul_units f (inf _) y s a b c hc v w = elim v [ ]
+mul_units f (fin s' m e) nan s a b c hc v w = elim w [ ]
+mul_units f (fin s' m e) (inf _) s a b c hc v w = elim w [ ]
 
 pub neg_value : (y : Float) (b c : ℕ) → HasValue y false b c → HasValue (neg y) true b c
 unfolding neg
 neg_value (fin t m e) b c h = (ap not h.0, h.1)
+neg_value nan b c h = elim h [ ]
+neg_value (inf _) b c h = elim h [ ]
 
 -- ---- a pattern's number, in units of 2 ^ -1074
 
@@ -220,6 +230,8 @@ by_nan (fin s m e) = refl
 by_inf : (x : Float) (s t : Bool) (a c : ℕ) → HasValue x s a c → rem binary64 x (inf t) ≡ x
 unfolding rem
 by_inf (fin s' m e) s t a c v = refl
+by_inf nan s t a c v = elim v [ ]
+by_inf (inf _) s t a c v = elim v [ ]
 
 at_end : (x : Float) (s : Bool) (a c b : ℕ) → HasValue x s a c → b % 2 ^ 63 ≡ 2047 * 2 ^ 52 → rem binary64 x (of_bits binary64 b) ≡ x
 unfolding of_bits of_fields
@@ -236,6 +248,8 @@ by_zero (fin s m e) (fin t' zero d) t c hc w = refl
 by_zero (fin s m e) (fin t' (suc n) d) t c hc w =
     let h : 0 < suc n * up d * c = mul-pos (mul-pos (zero-lt-suc n) (up_pos d)) hc in
     absurd (omega (arith, w.1, zero-mul (down d)))
+by_zero (fin s m e) nan t c hc w = elim w [ ]
+by_zero (fin s m e) (inf _) t c hc w = elim w [ ]
 
 -- ---- n units as a float: q times the value of 2 ^ k units
 

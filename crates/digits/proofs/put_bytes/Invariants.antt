@@ -6,7 +6,7 @@ use Rattle.digits.proofs.Laying.{laid_none, laid_then, laid_length}
 use Rattle.digits.proofs.put_bytes.Given as goal
 
 abbrev pub invariant-loop-i : goal.invariant-loop-i
-invariant-loop-i l = (Laid l.at l.text (take l.i l.initial.out) l.out l.next) × (l.i ≤ length l.initial.out)
+invariant-loop-i l = (Laid l.initial.out l.at (take l.i l.text) l.out l.next) × (l.i ≤ length l.text)
 
 abbrev pub decreases-loop-i : goal.decreases-loop-i
-decreases-loop-i l = length l.initial.out - l.i
+decreases-loop-i l = length l.text - l.i

@@ -7,7 +7,10 @@ use Rattle.float.proofs.to_u32.Goals as goal
 
 pub truncating_f64_to_u64-whole-requires : goal.truncating_f64_to_u64-whole-requires
 unfolding of_bits neg
-truncating_f64_to_u64-whole-requires c = (subst T (sym c.if-x.true) tt, subst T (sym c.if-x-2.true) tt)
+truncating_f64_to_u64-whole-requires c = record {
+  lower_bound = subst T (sym c.if-x.true) tt;
+  upper_bound = subst T (sym c.if-x-2.true) tt;
+}
 
 pub returns-then-whole-lt4294967295 : goal.returns-then-whole-lt4294967295
 returns-then-whole-lt4294967295 c = small _ c.truncating_f64_to_u64-whole.result c.truncating_f64_to_u64-whole.ensures c.if-whole-lt4294967295.true

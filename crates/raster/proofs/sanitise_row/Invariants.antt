@@ -14,11 +14,11 @@ use Rattle.raster.proofs.sanitise_row.Given as goal
 
 abbrev pub invariant-loop-i : goal.invariant-loop-i
 invariant-loop-i l =
-    (length l.row ≡ length l.nodata)
-    × (l.i ≤ length l.nodata)
-    × (map_from (sanitised l.initial.row) l.row l.i ≡ map (sanitised l.initial.row) l.nodata)
-    × (tallies_from l.initial.row l.t (drop l.i l.row) ≡ row_tallies l.initial.row l.nodata)
+    (length l.row ≡ length l.initial.row)
+    × (l.i ≤ length l.initial.row)
+    × (map_from (sanitised l.nodata) l.row l.i ≡ map (sanitised l.nodata) l.initial.row)
+    × (tallies_from l.nodata l.t (drop l.i l.row) ≡ row_tallies l.nodata l.initial.row)
     × (cells_of l.t ≡ l.i)
 
 abbrev pub decreases-loop-i : goal.decreases-loop-i
-decreases-loop-i l = length l.nodata - l.i
+decreases-loop-i l = length l.initial.row - l.i

@@ -5,14 +5,8 @@ use Rattle.std.proofs.Common.{◌≡◌, ℕ, zero, suc, ◌+◌, ◌-◌, ◌*�
 use native.Mathlib.Nat.{pow-succ'}
 use Rattle.sqrt.specs.private.Steps.{Closest}
 use Rattle.sqrt.proofs.Squares.{square_twice, square_next, square_product, square_middle}
+use Rattle.sqrt.proofs.by_digits.Invariants.{Down}
 use Rattle.sqrt.proofs.by_digits.Goals as goal
-
-record Down (v rest root rem i : ℕ) : Type 0 where
-  sum : (root * root + rem) * 2 ^ 64 + rest ≡ v * 4 ^ i
-  left : rem ≤ 2 * root
-  small : root < 2 ^ i
-  word : rest < 2 ^ 64
-
 
 -- one turn: four times as much has come down
 module _ (v rest root rem i : ℕ) (d : Down v rest root rem i) where

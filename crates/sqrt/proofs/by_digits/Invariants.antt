@@ -7,6 +7,13 @@ use Rattle.sqrt.specs.private.Steps.{Closest}
 use Rattle.sqrt.proofs.Squares.{square_twice, square_next, square_product, square_middle}
 use Rattle.sqrt.proofs.by_digits.Given as goal
 
+pub record Down (v rest root rem i : ℕ) : Type 0 where
+  pub sum : (root * root + rem) * 2 ^ 64 + rest ≡ v * 4 ^ i
+  pub left : rem ≤ 2 * root
+  pub small : root < 2 ^ i
+  pub word : rest < 2 ^ 64
+
+
 abbrev pub invariant-loop-i : goal.invariant-loop-i
 invariant-loop-i l = Down l.v l.rest l.root l.rem l.i × (l.i ≤ 54)
 

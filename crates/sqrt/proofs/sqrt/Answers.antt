@@ -10,7 +10,7 @@ use Rattle.sqrt.proofs.sqrt.Goals as goal
 
 -- what owning an `f64` tells: the format holds it, so that its pattern is the whole of it
 held : (c : tie.Start) → T (fits binary64 c.args.x)
-held c = subst T (sym c.well-formed.0.1) tt
+held c = subst T (sym c.well_formed.0.1) tt
 
 back : (c : tie.Start) → sqrt_of binary64 (of_bits binary64 (to_bits binary64 c.args.x)) ≡ sqrt_of binary64 c.args.x
 back c = ap (sqrt_of binary64) (of_bits-to_bits binary64 c.args.x (held c))

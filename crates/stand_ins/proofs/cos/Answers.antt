@@ -18,4 +18,4 @@ loop-k-preserved c = again c.loop-k-test.true c.cosine_term-c.ensures c.loop-k.i
 pub returns : goal.returns
 returns c =
     rw (ended c.loop-k-test.false c.loop-k.invariant, c.turns-k.ensures.0)
-    (cosine_turns (eq c.args.x f64zero) c.args.x c.well-formed.0.1 (λ e. e))
+    (cosine_turns (eq c.args.x f64zero) c.args.x c.well_formed.0.1 (λ e. e))

@@ -18,4 +18,4 @@ loop-k-preserved c = again c.loop-k-test.true c.sine_term-s.ensures c.loop-k.inv
 pub returns : goal.returns
 returns c =
     rw (ended c.loop-k-test.false c.loop-k.invariant, c.turns-k.ensures.0)
-    (sine_turns (eq c.args.x f64zero) c.args.x c.well-formed.0.1 (λ e. e))
+    (sine_turns (eq c.args.x f64zero) c.args.x c.well_formed.0.1 (λ e. e))

@@ -30,7 +30,7 @@ returns c =
     let m = l.invariant.4 in
     let e = c.finish.ensures in (
       e.0 ∙ m.digests,
-      parts_held a.nodata l.s-1.tallies _ _ (drop l.i l.row-1) a.row-1.now (omega (arith, c.well-formed.1.1.0)) m.tallies refl e.1,
+      parts_held a.nodata l.s-1.tallies _ _ (drop l.i l.row-1) a.row-1.now (omega (arith, c.well_formed.1.1.0)) m.tallies refl e.1,
       sym (end_acc a.nodata l.s-1 l.row-1 l.acc l.corr l.i (omega arith)) ∙ m.sums,
       sym (end_corr a.nodata l.s-1 l.row-1 l.acc l.corr l.i (omega arith)) ∙ m.corrections,
       e.2 ∙ m.clean,

@@ -11,11 +11,11 @@ use Rattle.sweep.proofs.sweep_row.Given as goal
 
 abbrev pub invariant-loop-i : goal.invariant-loop-i
 invariant-loop-i l =
-    (length l.acc ≡ length l.nodata)
-    × (length l.corr ≡ length l.digest)
-    × (length l.row ≡ length l.n)
-    × (l.i ≤ l.initial.row)
-    × Midway l.initial.acc l.initial.corr l.n l.nodata l.digest l.acc l.corr l.row l.s l.i
+    (length l.acc ≡ length l.initial.acc)
+    × (length l.corr ≡ length l.initial.corr)
+    × (length l.row ≡ length l.initial.row)
+    × (l.i ≤ l.n)
+    × Midway l.nodata l.digest l.initial.row l.initial.acc l.initial.corr l.acc l.corr l.row l.s l.i
 
 abbrev pub decreases-loop-i : goal.decreases-loop-i
-decreases-loop-i l = l.initial.row - l.i
+decreases-loop-i l = l.n - l.i

@@ -10,7 +10,7 @@ use borrow.Author.Rules.{rules}
 use Rattle.builder.proofs.hand_on.emit.Given as goal
 
 abbrev pub invariant-loop-c : goal.invariant-loop-c
-invariant-loop-c l = (length l.dst ≡ length l.src) × (l.c ≤ l.initial.dst) × (l.c % 8 ≡ 0) × (l.dst ≡ laid_runs 0 l.src l.whole 0 l.c)
+invariant-loop-c l = (length l.dst ≡ length l.initial.dst) × (l.c ≤ l.whole) × (l.c % 8 ≡ 0) × (l.dst ≡ laid_runs 0 l.initial.dst l.src 0 l.c)
 
 abbrev pub decreases-loop-c : goal.decreases-loop-c
-decreases-loop-c l = l.initial.dst - l.c
+decreases-loop-c l = l.whole - l.c

@@ -22,7 +22,7 @@ pub overflow_mul-coarse : goal.overflow_mul-coarse
 overflow_mul-coarse c = omega (arith, inside c)
 
 pub offset_bounds-acc-j : goal.offset_bounds-acc-j
-offset_bounds-acc-j c = scaled_Fits _ _ 8 (inside c) c.well-formed.1.0.1
+offset_bounds-acc-j c = scaled_Fits _ _ 8 (inside c) c.well_formed.1.0.1
 
 pub bounds-acc-j : goal.bounds-acc-j
 bounds-acc-j c = inside c

@@ -11,7 +11,7 @@ use borrow.Author.Rules.{rules, scaled_Fits}
 use Rattle.builder.proofs.hand_on.fill.Given as goal
 
 abbrev pub invariant-loop-j : goal.invariant-loop-j
-invariant-loop-j l = (length l.coarse ≡ length l.acc) × (l.j ≤ length l.acc) × (l.coarse ≡ copied l.acc (sampled l.factor l.initial.coarse l.acc) l.j)
+invariant-loop-j l = (length l.coarse ≡ length l.initial.coarse) × (l.j ≤ length l.initial.coarse) × (l.coarse ≡ copied l.initial.coarse (sampled l.acc l.factor l.initial.coarse) l.j)
 
 abbrev pub decreases-loop-j : goal.decreases-loop-j
-decreases-loop-j l = length l.acc - l.j
+decreases-loop-j l = length l.initial.coarse - l.j

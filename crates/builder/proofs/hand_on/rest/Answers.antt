@@ -27,7 +27,7 @@ pub overflow_add-dst : goal.overflow_add-dst
 overflow_add-dst c = omega (arith, inside c)
 
 pub offset_bounds-dst-c : goal.offset_bounds-dst-c
-offset_bounds-dst-c c = scaled_Fits _ _ 8 (inside c) c.well-formed.0.1
+offset_bounds-dst-c c = scaled_Fits _ _ 8 (inside c) c.well_formed.0.1
 
 pub bounds-dst-c : goal.bounds-dst-c
 bounds-dst-c c = rw c.loop-c.invariant.0 (inside c)

@@ -12,7 +12,7 @@ use borrow.Author.Rules.{rules, scaled_Fits}
 use Rattle.builder.proofs.hand_on.rest.Given as goal
 
 abbrev pub invariant-loop-c : goal.invariant-loop-c
-invariant-loop-c l = (length l.dst ≡ length l.src) × (l.c ≤ length l.from) × (l.initial.dst ≤ l.c) × (l.dst ≡ laid_runs 0 l.src l.from l.initial.dst (l.c - l.initial.dst))
+invariant-loop-c l = (length l.dst ≡ length l.initial.dst) × (l.c ≤ length l.src) × (l.from ≤ l.c) × (l.dst ≡ laid_runs 0 l.initial.dst l.src l.from (l.c - l.from))
 
 abbrev pub decreases-loop-c : goal.decreases-loop-c
-decreases-loop-c l = length l.from - l.c
+decreases-loop-c l = length l.src - l.c

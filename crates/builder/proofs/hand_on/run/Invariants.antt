@@ -10,7 +10,7 @@ use borrow.Author.Rules.{rules}
 use Rattle.builder.proofs.hand_on.run.Given as goal
 
 abbrev pub invariant-loop-i : goal.invariant-loop-i
-invariant-loop-i l = (length l.dst ≡ length l.at) × (l.i ≤ 8) × (l.dst ≡ stored l.at l.src l.from l.initial.dst l.i)
+invariant-loop-i l = (length l.dst ≡ length l.initial.dst) × (l.i ≤ 8) × (l.dst ≡ stored l.initial.dst l.at l.src l.from l.i)
 
 abbrev pub decreases-loop-i : goal.decreases-loop-i
 decreases-loop-i l = 8 - l.i

@@ -18,5 +18,5 @@ loop-k-preserved c =
 
 pub returns : goal.returns
 returns c =
-    both_ended cosine_term (λ x c. c) cos_of 1 15 cosine_turns c.args.x c.args.y c.well-formed.0.1 c.well-formed.1.0.1
+    both_ended cosine_term (λ x c. c) cos_of 1 15 cosine_turns c.args.x c.args.y c.well_formed.0.1 c.well_formed.1.0.1
     c.pair_turns-k.ensures.0 c.loop-k-test.false c.loop-k.invariant

@@ -19,5 +19,5 @@ loop-k-preserved c =
 
 pub returns : goal.returns
 returns c =
-    both_ended sine_term (mul binary64) sin_of 2 10 sine_turns c.args.x c.args.y c.well-formed.0.1 c.well-formed.1.0.1
+    both_ended sine_term (mul binary64) sin_of 2 10 sine_turns c.args.x c.args.y c.well_formed.0.1 c.well_formed.1.0.1
     c.pair_turns-k.ensures.0 c.loop-k-test.false c.loop-k.invariant

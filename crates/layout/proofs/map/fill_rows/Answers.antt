@@ -32,7 +32,7 @@ pub place-requires : goal.place-requires
 place-requires c = omega (arith, inside c)
 
 pub offset_bounds-blocks-place : goal.offset_bounds-blocks-place
-offset_bounds-blocks-place c = scaled_Fits _ _ 8 (rw c.place.ensures (inside c)) c.well-formed.1.0.1
+offset_bounds-blocks-place c = scaled_Fits _ _ 8 (rw c.place.ensures (inside c)) c.well_formed.1.0.1
 
 pub bounds-blocks-place : goal.bounds-blocks-place
 bounds-blocks-place c = rw c.place.ensures (inside c)

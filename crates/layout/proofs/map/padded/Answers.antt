@@ -23,7 +23,7 @@ pub overflow_add-result-then-row-grid : goal.overflow_add-result-then-row-grid
 overflow_add-result-then-row-grid c = omega (arith, inside c)
 
 pub offset_bounds-rows-row : goal.offset_bounds-rows-row
-offset_bounds-rows-row c = scaled_Fits _ _ 8 (inside c) c.well-formed.1.0.1
+offset_bounds-rows-row c = scaled_Fits _ _ 8 (inside c) c.well_formed.1.0.1
 
 pub bounds-rows-row : goal.bounds-rows-row
 bounds-rows-row c = inside c

@@ -13,7 +13,7 @@ use Rattle.layout.proofs.start.clear_from.Given as goal
 
 abbrev pub invariant-loop-col : goal.invariant-loop-col
 invariant-loop-col l =
-    (length l.table ≡ length l.width) × (l.initial.table ≤ l.col) × (l.col ≤ blocks_over l.row * 8) × (l.table ≡ cleared_from l.row l.width l.from l.col)
+    (length l.table ≡ length l.initial.table) × (l.from ≤ l.col) × (l.col ≤ blocks_over l.width * 8) × (l.table ≡ cleared_from l.width l.initial.table l.row l.col)
 
 abbrev pub decreases-loop-col : goal.decreases-loop-col
 decreases-loop-col l = l.col

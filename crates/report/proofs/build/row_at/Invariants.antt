@@ -16,7 +16,7 @@ use Rattle.report.proofs.build.row_at.Given as goal
 
 abbrev pub invariant-loop-j : goal.invariant-loop-j
 invariant-loop-j l =
-    (length l.row ≡ length l.at) × (l.j ≤ length l.at) × (take l.j l.row ++ words_at l.card (l.initial.row + 4 * l.j) (length l.at - l.j) ≡ words_at l.card l.initial.row (length l.at))
+    (length l.row ≡ length l.initial.row) × (l.j ≤ length l.initial.row) × (take l.j l.row ++ words_at l.card (l.at + 4 * l.j) (length l.initial.row - l.j) ≡ words_at l.card l.at (length l.initial.row))
 
 abbrev pub decreases-loop-j : goal.decreases-loop-j
-decreases-loop-j l = length l.at - l.j
+decreases-loop-j l = length l.initial.row - l.j

@@ -14,7 +14,7 @@ use Rattle.report.proofs.lines.put_circles.Given as goal
 
 abbrev pub invariant-loop-i : goal.invariant-loop-i
 invariant-loop-i l =
-    (Laid l.at l.grid (circles_text l.card l.h l.cells l.i) l.out l.next) × (l.i ≤ l.h.circles) × (1024 ≡ length l.widths)
+    (Laid l.initial.out l.at (circles_text l.card l.h l.cells l.i) l.out l.next) × (l.i ≤ l.h.circles) × (1024 ≡ length l.widths)
 
 abbrev pub decreases-loop-i : goal.decreases-loop-i
 decreases-loop-i l = l.h.circles - l.i
