@@ -17,7 +17,7 @@ pub loop-h-preserved : goal.loop-h-preserved
 loop-h-preserved c =
     let a = c.args in
     let t = climb_turn (contained_by a.cap a.row) a.cap.closing c.loop-h.h in
-    (omega arith, t c.if-cap-h.false (sym c.contains.ensures ∙ not-false _ c.if-not-contains.false) ∙ c.loop-h.invariant.1)
+    (omega arith, t c.if-cap-h.false (sym c.contains.ensures ∙ c.if-not-contains.false) ∙ c.loop-h.invariant.1)
 
 pub returns-then-cap-h : goal.returns-then-cap-h
 returns-then-cap-h c =
@@ -28,4 +28,4 @@ pub returns-then-not-contains : goal.returns-then-not-contains
 returns-then-not-contains c =
     let a = c.args in
     let t = climb_out (contained_by a.cap a.row) a.cap.closing c.loop-h.h in
-    t (sym c.contains.ensures ∙ not-true _ c.if-not-contains.true) ∙ c.loop-h.invariant.1
+    t (sym c.contains.ensures ∙ c.if-not-contains.true) ∙ c.loop-h.invariant.1
