@@ -6,4 +6,4 @@ use Rattle.geodesy.proofs.sphere.in_domain.Goals as goal
 
 pub returns : goal.returns
 unfolding in_domain
-returns c = rw (c.is_within-3.ensures, c.is_within-2.ensures, c.is_Within.ensures)
+returns c = rw (c.is_within-3.ensures, c.is_within-2.ensures, c.is_within.ensures)
