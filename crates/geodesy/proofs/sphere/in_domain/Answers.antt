@@ -1,6 +1,5 @@
 -- `geodesy::sphere::in_domain` meets its contract.
 -- Assumes nothing.
-use borrow.Author.Rules.{rules}
 use Rattle.geodesy.specs.Sphere.{in_domain}
 use Rattle.geodesy.proofs.sphere.in_domain.Goals as goal
 
