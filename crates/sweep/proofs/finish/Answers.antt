@@ -4,7 +4,6 @@ use mathlib.Core.Path.{ap, ◌∙◌}
 use Rattle.digest.specs.Digest.{digest_of}
 use Rattle.raster.specs.Raster.{sanitised_row}
 use Rattle.sweep.proofs.Sweeps.{rest_all, rest_back, rest_again}
-use borrow.Author.Rules.{rules}
 use Rattle.sweep.proofs.finish.Goals as goal
 
 pub returns : goal.returns

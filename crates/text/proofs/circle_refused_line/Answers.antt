@@ -8,4 +8,4 @@ use Rattle.text.proofs.circle_refused_line.Goals as goal
 pub returns : goal.returns
 unfolding circle_refused_line
 returns c =
-    laid_then c.put_circle-a.ensures c.Put-refused.ensures
+    laid_then c.put_circle-a.ensures c.put_refused.ensures
