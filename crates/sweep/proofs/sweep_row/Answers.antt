@@ -1,11 +1,10 @@
 -- `sweep::sweep_row` meets its contract. The invariant: what is done, then what becomes of the rest, is what becomes of the whole.
 -- Assumes nothing.
-use mathlib.Core.Path.{◌≡◌, refl, sym, ◌∙◌}
+use mathlib.Core.Path.{refl, sym, ◌∙◌}
 use native.Mathlib.Omega.{arith}
-use Prim.Native.Nat.{◌≤◌, ◌-◌}
-use lib.ListN.{length, drop, length-set}
+use lib.ListN.{drop, length-set}
 use Rattle.raster.proofs.Tallies.{parts_held}
-use Rattle.sweep.proofs.Sweeps.{Midway, start, turn, end_acc, end_corr}
+use Rattle.sweep.proofs.Sweeps.{start, turn, end_acc, end_corr}
 use borrow.Author.Rules.{rules}
 use Rattle.sweep.proofs.sweep_row.Goals as goal
 
