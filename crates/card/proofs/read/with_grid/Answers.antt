@@ -5,7 +5,6 @@ use Rattle.refusal.specs.Refusal.{answered}
 use Rattle.decimation.specs.Decimation.{decimation_new}
 use Rattle.card.specs.Words.{u32_at}
 use Rattle.card.proofs.Headers.{few_cells, decimation_read}
-use borrow.Author.Rules.{rules}
 use Rattle.card.proofs.read.with_grid.Goals as goal
 
 pub with_header-requires : goal.with_header-requires

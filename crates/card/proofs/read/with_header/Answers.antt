@@ -6,7 +6,6 @@ use Rattle.refusal.proofs.Chains.{refused_by}
 use lib.ListN.{length}
 use Rattle.sections.specs.Sections.{section_refusal}
 use Rattle.card.specs.Card.{table_too_large, row_bytes, circle_bytes}
-use borrow.Author.Rules.{rules}
 use Rattle.card.proofs.read.with_header.Goals as goal
 
 pub returns-then-n-ne-PASSED : goal.returns-then-n-ne-PASSED
