@@ -35,7 +35,7 @@ loop-i-preserved c =
     let people-in = c.people_in-answer in
     let l = c.loop-i.invariant in
     let line = rw (people-in.ensures, c.circle_at-c.ensures) at c.put_circle-next.ensures in
-    (rw add-one (laid_then l.0 line), omega (arith, c.loop-i-test.true), l.2 ∙ sym people-in.auto.1.1.1.0)
+    (rw add-one (laid_then l.0 line), omega (arith, c.loop-i-test.true), l.2 ∙ sym people-in.auto.widths)
 
 pub shape_of-out : goal.shape_of-out
 shape_of-out c = laid_length c.loop-i.invariant.0
