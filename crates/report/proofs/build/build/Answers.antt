@@ -1,13 +1,9 @@
 -- `report::build::build` meets its contract.
 -- Assumes nothing.
-use mathlib.Core.Path.{◌≡◌, refl, sym, ◌∙◌}
-use Prim.Native.Nat.{◌≤◌, ◌-◌}
+use mathlib.Core.Path.{refl, sym}
 use native.Mathlib.Omega.{arith}
-use lib.ListN.{length}
-use Rattle.builder.specs.Build.{buffers}
 use Rattle.report.proofs.Sizes.{front_inside, front_length, zeros_length, sizes, emptied}
-use Rattle.report.proofs.Building.{BuiltRows, never_refused, started, row_taken, finished}
-use borrow.Author.Rules.{rules}
+use Rattle.report.proofs.Building.{never_refused, started, row_taken, finished}
 use Rattle.report.proofs.build.build.Goals as goal
 
 -- ---- the buffers

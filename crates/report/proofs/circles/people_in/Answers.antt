@@ -2,7 +2,6 @@
 -- Assumes nothing.
 use mathlib.Core.Path.{◌∙◌}
 use Rattle.report.proofs.Counting.{radius_refused, kernel_refused, circle_counted}
-use borrow.Author.Rules.{rules}
 use Rattle.report.proofs.circles.people_in.Goals as goal
 
 pub returns-in-Refused : goal.returns-in-Refused

@@ -2,12 +2,8 @@
 -- Assumes nothing.
 use mathlib.Core.Path.{◌≡◌, sym, ◌∙◌}
 use native.Mathlib.Omega.{arith}
-use Prim.Native.Nat.{◌≤◌, ◌-◌}
 use native.Mathlib.Numerals.{add-one}
-use lib.ListN.{length}
-use Rattle.digits.specs.Laid.{Laid}
 use Rattle.digits.proofs.Laying.{laid_none, laid_then, laid_length}
-use Rattle.report.specs.Printed.{circles_text}
 use Rattle.report.proofs.Sizes.{grid_valid, sizes}
 use borrow.Author.Rules.{rules}
 use Rattle.report.proofs.lines.put_circles.Goals as goal

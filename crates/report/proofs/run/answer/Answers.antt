@@ -3,7 +3,6 @@
 use mathlib.Core.Path.{sym}
 use Rattle.card.proofs.Headers.{accepted}
 use Rattle.report.specs.Printed.{printed}
-use borrow.Author.Rules.{rules}
 use Rattle.report.proofs.run.answer.Goals as goal
 
 pub report-requires : goal.report-requires
