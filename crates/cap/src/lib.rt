@@ -1,6 +1,7 @@
 // A spherical cap: whether it reaches a row, and the half-width of the row, an estimate and the walk that corrects it
 // (Cap of kernel.rs).
 #![tactic(auto)]
+
 ghost use Rattle.std.specs.Prelude.{◌≡◌, min, ◌≤◌};
 ghost use Rattle.cap.specs.Walks.{climbed, descended};
 ghost use Rattle.cap.specs.Terms.{lon_term, cap_terms, row_terms, within_angle, contained_by, reached_by};

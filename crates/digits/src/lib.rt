@@ -1,6 +1,7 @@
 // Bytes and numbers, laid over a lent slice from an offset on. What lies past the slice's end is dropped; the answer is the offset
 // behind the part all the same, or the last offset that there is.
 #![tactic(auto)]
+
 ghost use Rattle.std.specs.Prelude.{◌≡◌, ◌+◌, ◌<◌, min, true, [], ◌∷◌, ◌++◌};
 ghost use Rattle.std.specs.Float.Ieee.{to_unsigned};
 ghost use Rattle.digits.specs.Digits.{decimal, hex_digit, hex_digits, is_count, shown, newline, bits_word};

@@ -1,5 +1,6 @@
 // Document 01, 'Geodesy': the stand-ins for sine, cosine, arctangent and arccosine. Every public function takes every value.
 #![tactic(auto)]
+
 ghost use Rattle.std.specs.Prelude.{◌≡◌, cond, ◌+◌, ◌-◌, ◌*◌, ◌<◌, ◌≤◌};
 ghost use Rattle.std.specs.Float.{binary64};
 ghost use Rattle.std.specs.Float.Ieee.{div, eq};

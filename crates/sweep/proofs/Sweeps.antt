@@ -10,13 +10,13 @@ use lib.Seq.{drop-cons, take-suc-set, drop-set-lt, append_snoc, take_all, drop_a
 use lib.Ieee.{Float, nan}
 use Rattle.float.specs.Float.{f64zero}
 use Rattle.digest.specs.Digest.{mixed, digest_of}
-use Rattle.raster.specs.Raster.{kind_of, sanitised, sanitised_row, no_tallies, tallied, row_tallies, cells_of}
+use Rattle.raster.specs.Raster.{cell_value, kind_of, sanitised, sanitised_row, no_tallies, tallied, row_tallies, cells_of}
 use Rattle.raster.specs.declared.CellTallies.{CellTallies}
 use Rattle.raster.proofs.Tallies.{tallies_from, one_more, tallies_held}
 use Rattle.raster.proofs.Turn.{map_from, map_turn, tallies_turn}
 use Rattle.sweep.specs.declared.Carry.{Carry}
 use Rattle.sweep.specs.declared.Column.{Column}
-use Rattle.sweep.specs.Sweep.{swept_acc, swept_corr, acc_after, corr_after}
+use Rattle.sweep.specs.Sweep.{taken_in, swept_acc, swept_corr, acc_after, corr_after}
 use Rattle.sweep.specs.private.Cell.{swept}
 
 -- ---- a turn of the sweep
@@ -149,13 +149,17 @@ length_swept_acc : (prefix rest : Float) (row : List ℕ) (acc corr : List Float
 length_swept_acc prefix rest [] acc corr = refl
 length_swept_acc prefix rest (x ∷ row) [] corr = refl
 length_swept_acc prefix rest (x ∷ row) (a ∷ acc) [] = refl
-length_swept_acc prefix rest (x ∷ row) (a ∷ acc) (c ∷ corr) = ap suc (length_swept_acc _ _ row acc corr)
+length_swept_acc prefix rest (x ∷ row) (a ∷ acc) (c ∷ corr) =
+    let p = taken_in prefix rest (cell_value x) in
+    ap suc (length_swept_acc p.sum p.dropped row acc corr)
 
 length_swept_corr : (prefix rest : Float) (row : List ℕ) (acc corr : List Float) → length (swept_corr prefix rest row acc corr) ≡ length corr
 length_swept_corr prefix rest [] acc corr = refl
 length_swept_corr prefix rest (x ∷ row) [] corr = refl
 length_swept_corr prefix rest (x ∷ row) (a ∷ acc) [] = refl
-length_swept_corr prefix rest (x ∷ row) (a ∷ acc) (c ∷ corr) = ap suc (length_swept_corr _ _ row acc corr)
+length_swept_corr prefix rest (x ∷ row) (a ∷ acc) (c ∷ corr) =
+    let p = taken_in prefix rest (cell_value x) in
+    ap suc (length_swept_corr p.sum p.dropped row acc corr)
 
 pub length_acc_after : (row : List ℕ) (acc corr : List Float) → length (acc_after row acc corr) ≡ length acc
 unfolding acc_after

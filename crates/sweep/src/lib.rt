@@ -1,5 +1,6 @@
 // A row goes into the column sums and the digest (`build` of table.rs).
 #![tactic(auto)]
+
 ghost use Rattle.std.specs.Prelude.{◌≡◌, ◌++◌, ◌≤◌, ◌-◌, min, length, take, drop};
 ghost use Rattle.digest.specs.Digest.{digest_of};
 ghost use Rattle.raster.specs.Raster.{sanitised_row, row_tallies, plus_tallies, held_tallies};

@@ -1,6 +1,7 @@
 // The lines that `count` prints (document 01). A line is laid over a lent slice of any length from any offset on: what does not
 // fit is dropped, and the answer is the offset behind the whole line.
 #![tactic(auto)]
+
 ghost use Rattle.std.specs.Prelude.{◌++◌};
 ghost use Rattle.digits.specs.Digits.{decimal, space};
 ghost use Rattle.digits.specs.Laid.{Laid};

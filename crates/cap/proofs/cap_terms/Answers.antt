@@ -1,7 +1,6 @@
 -- `cap::cap_terms` meets its contract.
 -- Assumes nothing.
 use Rattle.cap.specs.Terms.{cap_terms}
-use borrow.Author.Rules.{rules}
 use Rattle.cap.proofs.cap_terms.Goals as goal
 
 pub returns : goal.returns

@@ -1,7 +1,6 @@
 -- `cap::contains` meets its contract.
 -- Assumes nothing.
 use Rattle.cap.specs.Terms.{contained_by}
-use borrow.Author.Rules.{rules}
 use Rattle.cap.proofs.contains.Goals as goal
 
 pub returns : goal.returns

@@ -1,7 +1,6 @@
 -- `cap::edge_columns` meets its contract.
 -- Assumes nothing.
 use Rattle.cap.specs.Terms.{edge_columns_by}
-use borrow.Author.Rules.{rules}
 use Rattle.cap.proofs.edge_columns.Goals as goal
 
 pub returns : goal.returns

@@ -1,7 +1,6 @@
 -- `cap::edge_ratio` meets its contract.
 -- Assumes nothing.
 use Rattle.cap.specs.Terms.{edge_ratio_by}
-use borrow.Author.Rules.{rules}
 use Rattle.cap.proofs.edge_ratio.Goals as goal
 
 pub returns : goal.returns

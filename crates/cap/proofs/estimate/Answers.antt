@@ -2,7 +2,6 @@
 -- Assumes nothing.
 use Rattle.cap.specs.Terms.{estimated_by}
 use Rattle.cap.proofs.Steps.{nan_differs}
-use borrow.Author.Rules.{rules}
 use Rattle.cap.proofs.estimate.Goals as goal
 
 pub returns-then-ratio : goal.returns-then-ratio

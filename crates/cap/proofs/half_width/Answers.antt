@@ -2,7 +2,6 @@
 -- Assumes nothing.
 use Rattle.cap.specs.Terms.{half_width_by}
 use Rattle.cap.specs.Walks.{walked}
-use borrow.Author.Rules.{rules}
 use Rattle.cap.proofs.half_width.Goals as goal
 
 pub returns : goal.returns

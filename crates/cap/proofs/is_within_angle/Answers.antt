@@ -1,7 +1,6 @@
 -- `cap::is_within_angle` meets its contract.
 -- Assumes nothing.
 use Rattle.cap.specs.Terms.{within_angle}
-use borrow.Author.Rules.{rules}
 use Rattle.cap.proofs.is_within_angle.Goals as goal
 
 pub returns-then-cap : goal.returns-then-cap

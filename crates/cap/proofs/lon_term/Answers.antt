@@ -1,7 +1,6 @@
 -- `cap::lon_term` meets its contract.
 -- Assumes nothing.
 use Rattle.cap.specs.Terms.{lon_term}
-use borrow.Author.Rules.{rules}
 use Rattle.cap.proofs.lon_term.Goals as goal
 
 pub returns : goal.returns

@@ -1,7 +1,6 @@
 -- `cap::reaches` meets its contract.
 -- Assumes nothing.
 use Rattle.cap.specs.Terms.{reached_by}
-use borrow.Author.Rules.{rules}
 use Rattle.cap.proofs.reaches.Goals as goal
 
 pub returns : goal.returns

@@ -1,7 +1,6 @@
 -- `cap::row_terms` meets its contract.
 -- Assumes nothing.
 use Rattle.cap.specs.Terms.{row_terms}
-use borrow.Author.Rules.{rules}
 use Rattle.cap.proofs.row_terms.Goals as goal
 
 pub returns : goal.returns

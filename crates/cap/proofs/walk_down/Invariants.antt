@@ -1,11 +1,8 @@
 -- `cap::walk_down` meets its contract.
 -- Assumes nothing.
-use mathlib.Core.Path.{◌≡◌, refl, sym, ◌∙◌}
-use native.Mathlib.Omega.{arith}
+use mathlib.Core.Path.{◌≡◌}
 use Rattle.cap.specs.Terms.{contained_by}
 use Rattle.cap.specs.Walks.{descended}
-use Rattle.cap.proofs.Steps.{descend_turn, descend_in, descend_end}
-use borrow.Author.Rules.{rules}
 use Rattle.cap.proofs.walk_down.Given as goal
 
 abbrev pub invariant-loop-h : goal.invariant-loop-h

@@ -1,13 +1,9 @@
 -- `cap::walk_up` meets its contract.
 -- Assumes nothing.
-use mathlib.Core.Path.{◌≡◌, refl, sym, ◌∙◌}
+use mathlib.Core.Path.{refl, sym, ◌∙◌}
 use native.Mathlib.Omega.{arith}
-use Prim.Native.Nat.{◌≤◌, ◌-◌}
-use borrow.Author.Tests.{not-true, not-false}
 use Rattle.cap.specs.Terms.{contained_by}
-use Rattle.cap.specs.Walks.{climbed}
 use Rattle.cap.proofs.Steps.{climb_turn, climb_out, climb_end}
-use borrow.Author.Rules.{rules}
 use Rattle.cap.proofs.walk_up.Goals as goal
 
 pub loop-h-init : goal.loop-h-init
@@ -17,7 +13,7 @@ pub loop-h-preserved : goal.loop-h-preserved
 loop-h-preserved c =
     let a = c.args in
     let t = climb_turn (contained_by a.cap a.row) a.cap.closing c.loop-h.h in
-    (omega arith, t c.if-cap-h.false (sym c.contains.ensures ∙ not-false _ c.if-not-contains.false) ∙ c.loop-h.invariant.1)
+    (omega arith, t c.if-cap-h.false (sym c.contains.ensures ∙ c.if-not-contains.false) ∙ c.loop-h.invariant.1)
 
 pub returns-then-cap-h : goal.returns-then-cap-h
 returns-then-cap-h c =
@@ -28,4 +24,4 @@ pub returns-then-not-contains : goal.returns-then-not-contains
 returns-then-not-contains c =
     let a = c.args in
     let t = climb_out (contained_by a.cap a.row) a.cap.closing c.loop-h.h in
-    t (sym c.contains.ensures ∙ not-true _ c.if-not-contains.true) ∙ c.loop-h.invariant.1
+    t (sym c.contains.ensures ∙ c.if-not-contains.true) ∙ c.loop-h.invariant.1

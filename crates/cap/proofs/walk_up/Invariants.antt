@@ -1,13 +1,9 @@
 -- `cap::walk_up` meets its contract.
 -- Assumes nothing.
-use mathlib.Core.Path.{◌≡◌, refl, sym, ◌∙◌}
-use native.Mathlib.Omega.{arith}
+use mathlib.Core.Path.{◌≡◌}
 use Prim.Native.Nat.{◌≤◌, ◌-◌}
-use borrow.Author.Tests.{not-true, not-false}
 use Rattle.cap.specs.Terms.{contained_by}
 use Rattle.cap.specs.Walks.{climbed}
-use Rattle.cap.proofs.Steps.{climb_turn, climb_out, climb_end}
-use borrow.Author.Rules.{rules}
 use Rattle.cap.proofs.walk_up.Given as goal
 
 abbrev pub invariant-loop-h : goal.invariant-loop-h

@@ -1,7 +1,6 @@
 -- `digits::is_count` meets its contract.
 -- Assumes nothing.
 use Rattle.digits.specs.Digits.{is_count}
-use Rattle.std.proofs.Common.{rules}
 use Rattle.digits.proofs.is_count.Goals as goal
 
 pub returns : goal.returns

@@ -1,7 +1,6 @@
 -- `digits::put_bits` meets its contract.
 -- Assumes nothing.
 use Rattle.digits.proofs.Laying.{laid_then}
-use Rattle.std.proofs.Common.{rules}
 use Rattle.digits.proofs.put_bits.Goals as goal
 
 pub returns : goal.returns

@@ -1,6 +1,6 @@
 -- `digits::put_byte` meets its contract.
 -- Assumes nothing.
-use Rattle.std.proofs.Common.{arith, rules}
+use Rattle.std.proofs.Common.{arith}
 use Rattle.digits.proofs.Laying.{laid_out}
 use Rattle.digits.proofs.put_byte.Goals as goal
 

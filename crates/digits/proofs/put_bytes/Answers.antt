@@ -1,7 +1,6 @@
 -- `digits::put_bytes` meets its contract.
 -- Assumes nothing.
-use Rattle.std.proofs.Common.{◌-◌, ◌≤◌, length, take, add-one, arith, take_all, take-suc, rules}
-use Rattle.digits.specs.Laid.{Laid}
+use Rattle.std.proofs.Common.{add-one, arith, take_all, take-suc, rules}
 use Rattle.digits.proofs.Laying.{laid_none, laid_then, laid_length}
 use Rattle.digits.proofs.put_bytes.Goals as goal
 

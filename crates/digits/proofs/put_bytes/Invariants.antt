@@ -1,8 +1,7 @@
 -- `digits::put_bytes` meets its contract.
 -- Assumes nothing.
-use Rattle.std.proofs.Common.{◌-◌, ◌≤◌, length, take, add-one, arith, take_all, take-suc, rules}
+use Rattle.std.proofs.Common.{◌-◌, ◌≤◌, length, take}
 use Rattle.digits.specs.Laid.{Laid}
-use Rattle.digits.proofs.Laying.{laid_none, laid_then, laid_length}
 use Rattle.digits.proofs.put_bytes.Given as goal
 
 abbrev pub invariant-loop-i : goal.invariant-loop-i

@@ -1,7 +1,7 @@
 -- `digits::put_shown` meets its contract.
 -- Assumes nothing.
 use Rattle.digits.specs.Digits.{shown}
-use Rattle.std.proofs.Common.{sym, ◌∙◌, rules}
+use Rattle.std.proofs.Common.{sym, ◌∙◌}
 use Rattle.digits.proofs.put_shown.Goals as goal
 
 pub whole-requires : goal.whole-requires

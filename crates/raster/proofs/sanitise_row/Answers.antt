@@ -2,14 +2,13 @@
 -- becomes of the whole row; and so of the tallies.
 -- Assumes nothing.
 use mathlib.Core.Path.{◌≡◌, refl, sym, ◌∙◌, ap}
-use mathlib.Core.List.{map}
-use Prim.Native.Nat.{◌≤◌, ◌<◌, ◌-◌}
+use Prim.Native.Nat.{◌≤◌, ◌<◌}
 use native.Mathlib.Omega.{arith}
-use lib.ListN.{length, drop, get_or, length-set, drop_of_length-le}
+use lib.ListN.{length, get_or, length-set, drop_of_length-le}
 use borrow.Author.Rules.{rules}
-use Rattle.raster.specs.Raster.{sanitised, row_tallies, cells_of, tallied, kind_of}
-use Rattle.raster.proofs.Tallies.{tallies_from, one_more, tallies_held}
-use Rattle.raster.proofs.Turn.{map_from, map_turn, map_end, tallies_turn}
+use Rattle.raster.specs.Raster.{sanitised, cells_of, tallied, kind_of}
+use Rattle.raster.proofs.Tallies.{one_more, tallies_held}
+use Rattle.raster.proofs.Turn.{map_turn, map_end, tallies_turn}
 use Rattle.raster.proofs.sanitise_row.Goals as goal
 
 pub loop-i-init : goal.loop-i-init

@@ -1,15 +1,13 @@
 -- `raster::sanitise_row` meets its contract. The invariant: what the row is below i, then what becomes of the rest, is what
 -- becomes of the whole row; and so of the tallies.
 -- Assumes nothing.
-use mathlib.Core.Path.{◌≡◌, refl, sym, ◌∙◌, ap}
+use mathlib.Core.Path.{◌≡◌}
 use mathlib.Core.List.{map}
-use Prim.Native.Nat.{◌≤◌, ◌<◌, ◌-◌}
-use native.Mathlib.Omega.{arith}
-use lib.ListN.{length, drop, get_or, length-set, drop_of_length-le}
-use borrow.Author.Rules.{rules}
-use Rattle.raster.specs.Raster.{sanitised, row_tallies, cells_of, tallied, kind_of}
-use Rattle.raster.proofs.Tallies.{tallies_from, one_more, tallies_held}
-use Rattle.raster.proofs.Turn.{map_from, map_turn, map_end, tallies_turn}
+use Prim.Native.Nat.{◌≤◌, ◌-◌}
+use lib.ListN.{length, drop}
+use Rattle.raster.specs.Raster.{sanitised, row_tallies, cells_of}
+use Rattle.raster.proofs.Tallies.{tallies_from}
+use Rattle.raster.proofs.Turn.{map_from}
 use Rattle.raster.proofs.sanitise_row.Given as goal
 
 abbrev pub invariant-loop-i : goal.invariant-loop-i

@@ -1,12 +1,13 @@
 -- `sqrt::by_digits` meets its contract. The invariant: the square of the root so far and the remainder are the digits that came
 -- down, and `rest` holds those that are left.
 -- Assumes nothing.
-use Rattle.std.proofs.Common.{◌≡◌, ℕ, zero, suc, ◌+◌, ◌-◌, ◌*◌, ◌/◌, ◌%◌, ◌^◌, ◌<◌, ◌≤◌, ◌⊎◌, sym, ap, ◌∙◌, subst, inl, inr, ⊎_elim, lt_of_lt_of_le, mul_assoc, eq-zero-or-pos, mul-div_cancel, mul_left_comm, add-one, arith, pow_pos, pow_mono}
+use Rattle.std.proofs.Common.{◌≡◌, ℕ, zero, suc, ◌+◌, ◌-◌, ◌*◌, ◌/◌, ◌%◌, ◌^◌, ◌<◌, ◌≤◌, ◌⊎◌, sym, ap, ◌∙◌, subst, inl, inr, lt_of_lt_of_le, mul_assoc, eq-zero-or-pos, mul-div_cancel, mul_left_comm, add-one, arith, pow_pos, pow_mono}
 use native.Mathlib.Nat.{pow-succ'}
 use Rattle.sqrt.specs.private.Steps.{Closest}
 use Rattle.sqrt.proofs.Squares.{square_twice, square_next, square_product, square_middle}
 use Rattle.sqrt.proofs.by_digits.Invariants.{Down}
 use Rattle.sqrt.proofs.by_digits.Goals as goal
+use Rattle.sqrt.proofs.by_digits.Goals.{then-trial-down, else-trial-down}
 
 -- one turn: four times as much has come down
 module _ (v rest root rem i : ℕ) (d : Down v rest root rem i) where
@@ -31,7 +32,6 @@ module _ (v rest root rem i : ℕ) (d : Down v rest root rem i) where
     small = omega (arith, double, d.small);
     word = omega arith;
   }
-
 
 -- ---- after 54 turns: the root of four times the number, so that half of it, rounded up, is the closest
 turns : (v : ℕ) → v * 4 ^ 54 / 2 ^ 64 ≡ v * 2 ^ 44
@@ -66,32 +66,32 @@ halved n q r p e l = go (eq-zero-or-pos (q % 2))
         subst (Closest n) half (odd n (q / 2) r (subst (λ (x : ℕ). x * x + r ≡ 4 * n) is e) (omega arith))
 
 -- within the loop the root is short of 60 digits
-short : (c : tie.In-loop invariant-loop decreases-loop) → c.loop-i.root < 2 ^ 59
-short c = lt_of_lt_of_le c.loop-i.invariant.0.small (pow_mono {i = c.loop-i.i} {j = 59} (omega arith))
+short : (v rest root rem i : ℕ) → Down v rest root rem i → i ≤ 54 → root < 2 ^ 59
+short v rest root rem i d h = lt_of_lt_of_le d.small (pow_mono {i = i} {j = 59} (omega arith))
 
 pub loop-i-init : goal.loop-i-init
 loop-i-init c = (record { sum = omega arith; left = omega arith; small = omega arith; word = c.ranges.v.fits }, omega arith)
 
 pub overflow_mul-down : goal.overflow_mul-down
-overflow_mul-down c = omega (arith, short c)
+overflow_mul-down c = omega (arith, short _ _ _ _ _ c.loop-i.invariant.0 c.loop-i.invariant.1)
 
 pub overflow_add-down : goal.overflow_add-down
-overflow_add-down c = omega (arith, short c)
+overflow_add-down c = omega (arith, short _ _ _ _ _ c.loop-i.invariant.0 c.loop-i.invariant.1)
 
 pub overflow_mul-trial : goal.overflow_mul-trial
-overflow_mul-trial c = omega (arith, short c)
+overflow_mul-trial c = omega (arith, short _ _ _ _ _ c.loop-i.invariant.0 c.loop-i.invariant.1)
 
 pub overflow_add-trial : goal.overflow_add-trial
-overflow_add-trial c = omega (arith, short c)
+overflow_add-trial c = omega (arith, short _ _ _ _ _ c.loop-i.invariant.0 c.loop-i.invariant.1)
 
 pub overflow_mul-root : goal.overflow_mul-root
-overflow_mul-root c = omega (arith, short c)
+overflow_mul-root c = omega (arith, short _ _ _ _ _ c.loop-i.invariant.0 c.loop-i.invariant.1)
 
 pub overflow_add-root : goal.overflow_add-root
-overflow_add-root c = omega (arith, short c)
+overflow_add-root c = omega (arith, short _ _ _ _ _ c.loop-i.invariant.0 c.loop-i.invariant.1)
 
 pub overflow_mul-root-else-trial-down : goal.overflow_mul-root-else-trial-down
-overflow_mul-root-else-trial-down c = omega (arith, short c)
+overflow_mul-root-else-trial-down c = omega (arith, short _ _ _ _ _ c.loop-i.invariant.0 c.loop-i.invariant.1)
 
 pub overflow_add-i : goal.overflow_add-i
 overflow_add-i c = omega arith
@@ -102,10 +102,10 @@ loop-i-smaller c = omega arith
 pub loop-i-preserved : goal.loop-i-preserved
 loop-i-preserved c =
     let d = c.loop-i.invariant.0 in
-    ⊎_elim
-    (λ w. (rw (w.1, w.2) (one_digit _ _ _ _ _ d w.0.taken), omega arith))
-    (λ w. (rw (w.1, w.2) (zero_digit _ _ _ _ _ d w.0.left), omega arith))
-    c.if-trial-down.branch
+    elim c.if-trial-down.branch [
+      | then-trial-down w ↦ (rw (w.root-is, w.rem-is) (one_digit _ _ _ _ _ d w.if-trial-down.true), omega arith)
+      | else-trial-down w ↦ (rw (w.root-is, w.rem-is) (zero_digit _ _ _ _ _ d w.if-trial-down.false), omega arith)
+    ]
 
 pub overflow_add-result : goal.overflow_add-result
 overflow_add-result c = omega (arith, (done _ _ _ _ _ c.loop-i.invariant.0 (omega arith)).1)

@@ -1,10 +1,7 @@
 -- `sqrt::by_digits` meets its contract. The invariant: the square of the root so far and the remainder are the digits that came
 -- down, and `rest` holds those that are left.
 -- Assumes nothing.
-use Rattle.std.proofs.Common.{◌≡◌, ℕ, zero, suc, ◌+◌, ◌-◌, ◌*◌, ◌/◌, ◌%◌, ◌^◌, ◌<◌, ◌≤◌, ◌⊎◌, sym, ap, ◌∙◌, subst, inl, inr, ⊎_elim, lt_of_lt_of_le, mul_assoc, eq-zero-or-pos, mul-div_cancel, mul_left_comm, add-one, arith, pow_pos, pow_mono}
-use native.Mathlib.Nat.{pow-succ'}
-use Rattle.sqrt.specs.private.Steps.{Closest}
-use Rattle.sqrt.proofs.Squares.{square_twice, square_next, square_product, square_middle}
+use Rattle.std.proofs.Common.{◌≡◌, ℕ, ◌+◌, ◌-◌, ◌*◌, ◌^◌, ◌<◌, ◌≤◌}
 use Rattle.sqrt.proofs.by_digits.Given as goal
 
 pub record Down (v rest root rem i : ℕ) : Type 0 where
@@ -12,7 +9,6 @@ pub record Down (v rest root rem i : ℕ) : Type 0 where
   pub left : rem ≤ 2 * root
   pub small : root < 2 ^ i
   pub word : rest < 2 ^ 64
-
 
 abbrev pub invariant-loop-i : goal.invariant-loop-i
 invariant-loop-i l = Down l.v l.rest l.root l.rem l.i × (l.i ≤ 54)

@@ -1,7 +1,7 @@
 -- `sqrt::guess` meets its contract.
 -- Assumes nothing.
 use Rattle.sqrt.proofs.Cases.{no_nan, no_nan_pattern}
-use Rattle.std.proofs.Common.{arith, rules}
+use Rattle.std.proofs.Common.{arith}
 use Rattle.sqrt.proofs.guess.Goals as goal
 
 pub float_from_bits-x : goal.float_from_bits-x

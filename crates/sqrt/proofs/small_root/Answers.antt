@@ -1,37 +1,30 @@
 -- `sqrt::small_root` meets its contract. Assumes nothing.
-use Rattle.std.proofs.Common.{◌+◌, ◌-◌, ◌*◌, ◌/◌, ◌%◌, ◌^◌, arith, rules}
+use Rattle.std.proofs.Common.{◌-◌, arith}
 use lib.Count.{count_leading_zeros}
 use Rattle.sqrt.proofs.Cases.{no_nan_pattern}
-use Rattle.sqrt.proofs.Splits.{Split, Lacks, lacks, word, split_small, below_infinity, root_at}
+use Rattle.sqrt.proofs.Splits.{lacks, word, split_small, below_infinity, root_at}
 use Rattle.sqrt.proofs.small_root.Goals as goal
 
-at : (c : tie.Start) → Lacks c.args.b (count_leading_zeros 64 c.args.b - 11)
-at c = lacks c.args.b c.requires.0 c.requires.1
-
-parts : (c : tie.Start) → let s =
-    count_leading_zeros 64 c.args.b - 11 in Split c.args.b (c.args.b * 2 ^ s % 2 ^ 64 * 2 ^ (10 + s % 2) % 2 ^ 64 * 2 ^ 42) ((1022 - s) / 2)
-parts c = split_small c.args.b (count_leading_zeros 64 c.args.b - 11) c.requires.0 c.requires.1 (at c)
-
 pub overflow_sub-s : goal.overflow_sub-s
-overflow_sub-s c = omega (arith, at c)
+overflow_sub-s c = omega (arith, lacks c.args.b c.requires.0 c.requires.1)
 
 pub overflow_cast-s : goal.overflow_cast-s
-overflow_cast-s c = omega (arith, at c)
+overflow_cast-s c = omega (arith, lacks c.args.b c.requires.0 c.requires.1)
 
 pub overflow_sub-result : goal.overflow_sub-result
-overflow_sub-result c = omega (arith, at c)
+overflow_sub-result c = omega (arith, lacks c.args.b c.requires.0 c.requires.1)
 
 pub overflow_shl-b : goal.overflow_shl-b
-overflow_shl-b c = omega (arith, at c)
+overflow_shl-b c = omega (arith, lacks c.args.b c.requires.0 c.requires.1)
 
 pub by_digits-requires : goal.by_digits-requires
-by_digits-requires c = (word _ _ c.requires.0 c.requires.1 (at c)).1
+by_digits-requires c = (word _ _ c.requires.0 c.requires.1 (lacks c.args.b c.requires.0 c.requires.1)).1
 
 pub overflow_add-result : goal.overflow_add-result
-overflow_add-result c = omega (arith, below_infinity _ _ _ _ (parts c) c.by_digits.ensures)
+overflow_add-result c = omega (arith, below_infinity _ _ _ _ (split_small c.args.b (count_leading_zeros 64 c.args.b - 11) c.requires.0 c.requires.1 (lacks c.args.b c.requires.0 c.requires.1)) c.by_digits.ensures)
 
 pub float_from_bits-result : goal.float_from_bits-result
-float_from_bits-result c = no_nan_pattern _ (below_infinity _ _ _ _ (parts c) c.by_digits.ensures)
+float_from_bits-result c = no_nan_pattern _ (below_infinity _ _ _ _ (split_small c.args.b (count_leading_zeros 64 c.args.b - 11) c.requires.0 c.requires.1 (lacks c.args.b c.requires.0 c.requires.1)) c.by_digits.ensures)
 
 pub returns : goal.returns
-returns c = root_at _ _ _ _ (parts c) c.by_digits.ensures
+returns c = root_at _ _ _ _ (split_small c.args.b (count_leading_zeros 64 c.args.b - 11) c.requires.0 c.requires.1 (lacks c.args.b c.requires.0 c.requires.1)) c.by_digits.ensures

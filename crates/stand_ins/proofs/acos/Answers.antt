@@ -1,6 +1,5 @@
 -- `stand_ins::acos` meets its contract.
 -- Assumes nothing.
-use borrow.Author.Rules.{rules}
 use Rattle.stand_ins.specs.StandIns.{acos_of}
 use Rattle.stand_ins.proofs.acos.Goals as goal
 

@@ -1,6 +1,5 @@
 -- `stand_ins::arctan` meets its contract.
 -- Assumes nothing.
-use borrow.Author.Rules.{rules}
 use lib.Ieee.{eq}
 use Rattle.float.specs.Float.{f64zero}
 use Rattle.stand_ins.proofs.Zeros.{arctan_turns}

@@ -2,8 +2,7 @@
 -- Assumes nothing.
 use mathlib.Core.Path.{refl}
 use borrow.Author.Rules.{rules}
-use Rattle.stand_ins.specs.StandIns.{arctan_term}
-use Rattle.stand_ins.proofs.Laws.{Downward, again, ended}
+use Rattle.stand_ins.proofs.Laws.{again, ended}
 use Rattle.stand_ins.proofs.arctan_series.Goals as goal
 
 pub loop-k-init : goal.loop-k-init

@@ -1,9 +1,7 @@
 -- `stand_ins::arctan_series` meets its contract: `Downward` holds at each turn of its loop.
 -- Assumes nothing.
-use mathlib.Core.Path.{refl}
-use borrow.Author.Rules.{rules}
 use Rattle.stand_ins.specs.StandIns.{arctan_term}
-use Rattle.stand_ins.proofs.Laws.{Downward, again, ended}
+use Rattle.stand_ins.proofs.Laws.{Downward}
 use Rattle.stand_ins.proofs.arctan_series.Given as goal
 
 abbrev pub invariant-loop-k : goal.invariant-loop-k

@@ -1,6 +1,5 @@
 -- `stand_ins::arctan_term` meets its contract.
 -- Assumes nothing.
-use borrow.Author.Rules.{rules}
 use Rattle.stand_ins.specs.StandIns.{arctan_term}
 use Rattle.stand_ins.proofs.arctan_term.Goals as goal
 

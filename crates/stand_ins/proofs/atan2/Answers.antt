@@ -1,6 +1,5 @@
 -- `stand_ins::atan2` meets its contract.
 -- Assumes nothing.
-use borrow.Author.Rules.{rules}
 use Rattle.stand_ins.specs.StandIns.{atan2_of}
 use Rattle.stand_ins.proofs.atan2.Goals as goal
 

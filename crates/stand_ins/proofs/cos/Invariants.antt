@@ -1,12 +1,8 @@
 -- `stand_ins::cos` meets its contract: `Downward` holds at each turn of its loop.
 -- Assumes nothing.
-use mathlib.Core.Path.{refl}
-use borrow.Author.Rules.{rules}
-use lib.Ieee.{eq}
-use Rattle.float.specs.Float.{f64zero, f64one}
+use Rattle.float.specs.Float.{f64one}
 use Rattle.stand_ins.specs.StandIns.{cosine_term}
-use Rattle.stand_ins.proofs.Laws.{Downward, again, ended}
-use Rattle.stand_ins.proofs.Zeros.{cosine_turns}
+use Rattle.stand_ins.proofs.Laws.{Downward}
 use Rattle.stand_ins.proofs.cos.Given as goal
 
 abbrev pub invariant-loop-k : goal.invariant-loop-k

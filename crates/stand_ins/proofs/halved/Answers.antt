@@ -1,6 +1,5 @@
 -- `stand_ins::halved` meets its contract.
 -- Assumes nothing.
-use borrow.Author.Rules.{rules}
 use Rattle.stand_ins.specs.StandIns.{halved}
 use Rattle.stand_ins.proofs.halved.Goals as goal
 

@@ -3,9 +3,8 @@
 use mathlib.Core.Path.{refl}
 use borrow.Author.Rules.{rules}
 use lib.Ieee.{eq}
-use Rattle.float.specs.Float.{f64zero, f64one}
-use Rattle.stand_ins.specs.StandIns.{sine_term}
-use Rattle.stand_ins.proofs.Laws.{Downward, again, ended}
+use Rattle.float.specs.Float.{f64zero}
+use Rattle.stand_ins.proofs.Laws.{again, ended}
 use Rattle.stand_ins.proofs.Zeros.{sine_turns}
 use Rattle.stand_ins.proofs.sin.Goals as goal
 

@@ -1,7 +1,6 @@
 -- `sweep::sweep_cell` meets its contract.
 -- Assumes nothing.
 use Rattle.sweep.specs.private.Cell.{swept}
-use borrow.Author.Rules.{rules}
 use Rattle.sweep.proofs.sweep_cell.Goals as goal
 
 pub returns : goal.returns

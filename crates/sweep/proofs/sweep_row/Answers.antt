@@ -1,11 +1,10 @@
 -- `sweep::sweep_row` meets its contract. The invariant: what is done, then what becomes of the rest, is what becomes of the whole.
 -- Assumes nothing.
-use mathlib.Core.Path.{◌≡◌, refl, sym, ◌∙◌}
+use mathlib.Core.Path.{refl, sym, ◌∙◌}
 use native.Mathlib.Omega.{arith}
-use Prim.Native.Nat.{◌≤◌, ◌-◌}
-use lib.ListN.{length, drop, length-set}
+use lib.ListN.{drop, length-set}
 use Rattle.raster.proofs.Tallies.{parts_held}
-use Rattle.sweep.proofs.Sweeps.{Midway, start, turn, end_acc, end_corr}
+use Rattle.sweep.proofs.Sweeps.{start, turn, end_acc, end_corr}
 use borrow.Author.Rules.{rules}
 use Rattle.sweep.proofs.sweep_row.Goals as goal
 
@@ -19,7 +18,7 @@ loop-i-preserved c =
       simp length-set l.invariant.1,
       simp length-set l.invariant.2,
       search rules,
-      turn _ l.row-1 l.acc l.corr l.s-1 l.i (omega arith) _ _ _ _ c.sweep_cell-c.result c.sweep_cell-c.ensures
+      turn _ l.row l.acc l.corr l.s l.i (omega arith) _ _ _ _ c.sweep_cell-c.result c.sweep_cell-c.ensures
           (omega arith) (omega arith) (omega arith) l.invariant.4,
     )
 
@@ -30,8 +29,8 @@ returns c =
     let m = l.invariant.4 in
     let e = c.finish.ensures in (
       e.0 ∙ m.digests,
-      parts_held a.nodata l.s-1.tallies _ _ (drop l.i l.row-1) a.row-1.now (omega (arith, c.well_formed.1.1.0)) m.tallies refl e.1,
-      sym (end_acc a.nodata l.s-1 l.row-1 l.acc l.corr l.i (omega arith)) ∙ m.sums,
-      sym (end_corr a.nodata l.s-1 l.row-1 l.acc l.corr l.i (omega arith)) ∙ m.corrections,
+      parts_held a.nodata l.s.tallies _ _ (drop l.i l.row) a.row.now (omega (arith, c.well_formed.1.1.0)) m.tallies refl e.1,
+      sym (end_acc a.nodata l.s l.row l.acc l.corr l.i (omega arith)) ∙ m.sums,
+      sym (end_corr a.nodata l.s l.row l.acc l.corr l.i (omega arith)) ∙ m.corrections,
       e.2 ∙ m.clean,
     )

@@ -1,12 +1,9 @@
 -- `sweep::sweep_row` meets its contract. The invariant: what is done, then what becomes of the rest, is what becomes of the whole.
 -- Assumes nothing.
-use mathlib.Core.Path.{◌≡◌, refl, sym, ◌∙◌}
-use native.Mathlib.Omega.{arith}
+use mathlib.Core.Path.{◌≡◌}
 use Prim.Native.Nat.{◌≤◌, ◌-◌}
-use lib.ListN.{length, drop, length-set}
-use Rattle.raster.proofs.Tallies.{parts_held}
-use Rattle.sweep.proofs.Sweeps.{Midway, start, turn, end_acc, end_corr}
-use borrow.Author.Rules.{rules}
+use lib.ListN.{length}
+use Rattle.sweep.proofs.Sweeps.{Midway}
 use Rattle.sweep.proofs.sweep_row.Given as goal
 
 abbrev pub invariant-loop-i : goal.invariant-loop-i

@@ -1,7 +1,6 @@
 -- `sweep::take_in` meets its contract.
 -- Assumes nothing.
 use Rattle.sweep.specs.Sweep.{taken_in}
-use borrow.Author.Rules.{rules}
 use Rattle.sweep.proofs.take_in.Goals as goal
 
 pub returns : goal.returns

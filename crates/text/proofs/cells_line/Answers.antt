@@ -3,7 +3,6 @@
 use Rattle.digits.proofs.Laying.{laid_parts}
 use Rattle.digits.specs.Digits.{decimal, space, newline}
 use Rattle.text.specs.Text.{cells_line}
-use borrow.Author.Rules.{rules}
 use Rattle.text.proofs.cells_line.Goals as goal
 
 pub returns : goal.returns

@@ -3,7 +3,6 @@
 use Rattle.digits.proofs.Laying.{laid_parts}
 use Rattle.digits.specs.Digits.{shown, newline}
 use Rattle.text.specs.Text.{circle_line}
-use borrow.Author.Rules.{rules}
 use Rattle.text.proofs.circle_line.Goals as goal
 
 pub returns : goal.returns

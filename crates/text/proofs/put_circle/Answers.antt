@@ -1,7 +1,6 @@
 -- `text::put_circle` meets its contract.
 -- Assumes nothing.
 use Rattle.digits.proofs.Laying.{laid_then}
-use borrow.Author.Rules.{rules}
 use Rattle.text.proofs.put_circle.Goals as goal
 
 pub returns : goal.returns

@@ -2,7 +2,6 @@
 -- Assumes nothing.
 use Rattle.digits.proofs.Laying.{laid_then}
 use Rattle.text.specs.Text.{rows_line}
-use borrow.Author.Rules.{rules}
 use Rattle.text.proofs.rows_line.Goals as goal
 
 pub returns : goal.returns

@@ -2,7 +2,6 @@
 -- Assumes nothing.
 use Rattle.digits.proofs.Laying.{laid_then}
 use Rattle.text.specs.Text.{total_line}
-use borrow.Author.Rules.{rules}
 use Rattle.text.proofs.total_line.Goals as goal
 
 pub returns : goal.returns

@@ -16,7 +16,7 @@ made : (c : tie.After-known-told2) → answered c.made-in-Made-1.given.0.0 ≡ d
 made c = rw c.made-in-Made-1.given.1 at c.new-made.ensures
 
 pub returns-in-Refused : goal.returns-in-Refused
-returns-in-Refused c = begin_barred _ _ _ _ _ (rw c.made-1.given.1 at c.new-made.ensures)
+returns-in-Refused c = begin_barred _ _ _ _ _ (rw c.in-Refused.is at c.new-made.ensures)
 
 pub lent_refusal-n-requires : goal.lent_refusal-n-requires
 lent_refusal-n-requires c = (decimation_made _ _ _ (sym (made c))).valid

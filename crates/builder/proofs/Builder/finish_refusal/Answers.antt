@@ -13,9 +13,9 @@ returns-then-not-is_valid c = simp (← c.is_valid.ensures, c.if-not-is_valid.tr
 
 pub lent_refusal-requires : goal.lent_refusal-requires
 lent_refusal-requires c =
-    (standing c.args.self (sym c.is_valid.ensures ∙ not-false c.is_valid.result c.if-not-is_valid.false)).made
+    (standing c.args.self (sym c.is_valid.ensures ∙ c.if-not-is_valid.false)).made
 
 pub returns : goal.returns
 unfolding finish_refusal
 returns c =
-    simp (← c.is_valid.ensures, not-false c.is_valid.result c.if-not-is_valid.false, c.lent_refusal.ensures, c.first-n14.ensures)
+    simp (← c.is_valid.ensures, c.if-not-is_valid.false, c.lent_refusal.ensures, c.first-n14.ensures)

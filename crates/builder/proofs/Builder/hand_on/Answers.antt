@@ -19,9 +19,9 @@ start c = c
 abbrev entry : tie.After-fill-coarse → tie.Start
 entry c = start c
 
-filled : (c : tie.After-fill-coarse) → length c.fill_coarse.new.0 ≡ length (entry c).args.coarse-1.now
+filled : (c : tie.After-fill-coarse) → length c.fill_coarse.new.0 ≡ length (entry c).args.coarse.now
 filled c =
-    let a = (entry c).args in ap length c.fill_coarse.ensures ∙ length_coarse_filled a.acc.now a.coarse-1.now a.self.decimation.factor
+    let a = (entry c).args in ap length c.fill_coarse.ensures ∙ length_coarse_filled a.acc.now a.coarse.now a.self.decimation.factor
 
 -- where the coarse row is filled, from the end
 abbrev filling : tie.After-slice-known4 → tie.After-fill-coarse
@@ -31,7 +31,7 @@ pub nonzero_rem-rows : goal.nonzero_rem-rows
 nonzero_rem-rows c = let s = start c in (framed s.args.self.decimation s.pre.0.valid).some
 
 pub returns-then-rows-d-ne0 : goal.returns-then-rows-d-ne0
-returns-then-rows-d-ne0 c = let s = (start c).args in not_handed_on s.self s.acc.now s.coarse-1.now s.table-1.now c.if-rows-d-ne0.true
+returns-then-rows-d-ne0 c = let s = (start c).args in not_handed_on s.self s.acc.now s.coarse.now s.table.now c.if-rows-d-ne0.true
 
 pub fill_coarse-requires : goal.fill_coarse-requires
 fill_coarse-requires c = let s = start c in samples s.args.self.decimation _ _ _ s.pre.0
@@ -58,7 +58,7 @@ pub returns : goal.returns
 returns c =
     let fill = filling c in
     let a = (entry fill).args in
-    handed_on_lem a.self a.acc.now a.coarse-1.now a.table-1.now _ _ _ fill.if-rows-d-ne0.left fill.fill_coarse.ensures
+    handed_on_lem a.self a.acc.now a.coarse.now a.table.now _ _ _ fill.if-rows-d-ne0.left fill.fill_coarse.ensures
     c.decimated.ensures c.lay.ensures
 
 pub shape_of-coarse : goal.shape_of-coarse

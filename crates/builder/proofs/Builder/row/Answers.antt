@@ -18,13 +18,13 @@ abbrev tested : tie.After-sweep-row → tie.Else1
 tested c = c
 
 taken : (c : tie.After-sweep-row)
-    → Taken (start (tested c)).args.self (start (tested c)).args.row-1.now
-    (buffers (start (tested c)).args.acc-1.now (start (tested c)).args.corr-1.now
-    (start (tested c)).args.coarse-1.now (start (tested c)).args.table-1.now)
+    → Taken (start (tested c)).args.self (start (tested c)).args.row.now
+    (buffers (start (tested c)).args.acc.now (start (tested c)).args.corr.now
+    (start (tested c)).args.coarse.now (start (tested c)).args.table.now)
 taken c =
     let t = tested c in
     let a = (start t).args in
-    row_passed a.self a.row-1.now (buffers a.acc-1.now a.corr-1.now a.coarse-1.now a.table-1.now)
+    row_passed a.self a.row.now (buffers a.acc.now a.corr.now a.coarse.now a.table.now)
     (sym t.row_refusal-n.ensures ∙ t.if-n-ne-PASSED.left)
 
 -- where the row is handed on, from the end, and where it is swept
@@ -37,7 +37,7 @@ swept c = c
 pub returns-then-n-ne-PASSED : goal.returns-then-n-ne-PASSED
 returns-then-n-ne-PASSED c =
     let a = (start c).args in
-    row_refused a.self a.row-1.now (buffers a.acc-1.now a.corr-1.now a.coarse-1.now a.table-1.now) _ c.row_refusal-n.ensures
+    row_refused a.self a.row.now (buffers a.acc.now a.corr.now a.coarse.now a.table.now) _ c.row_refusal-n.ensures
     c.if-n-ne-PASSED.true
 
 pub hand_on-requires : goal.hand_on-requires
@@ -53,7 +53,7 @@ returns c =
     let a = (start t).args in
     let e = (swept (handed c)).sweep_row-swept.ensures in
     let h = (handed c).hand_on.ensures in
-    row_taken a.self a.row-1.now (buffers a.acc-1.now a.corr-1.now a.coarse-1.now a.table-1.now) _ t.row_refusal-n.ensures
+    row_taken a.self a.row.now (buffers a.acc.now a.corr.now a.coarse.now a.table.now) _ t.row_refusal-n.ensures
     t.if-n-ne-PASSED.left _ _ _ _ _ _ _ _ e.1 e.4 c.plus-tallies.ensures e.0 e.2 e.3 h.0 h.1
 
 pub shape_of-row : goal.shape_of-row

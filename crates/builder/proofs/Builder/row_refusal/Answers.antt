@@ -13,14 +13,14 @@ returns-then-not-is_valid c = simp (← c.is_valid.ensures, c.if-not-is_valid.tr
 
 pub lent_refusal-requires : goal.lent_refusal-requires
 lent_refusal-requires c =
-    (standing c.args.self (sym c.is_valid.ensures ∙ not-false c.is_valid.result c.if-not-is_valid.false)).made
+    (standing c.args.self (sym c.is_valid.ensures ∙ c.if-not-is_valid.false)).made
 
 pub returns : goal.returns
 unfolding row_refusal
 returns c =
     simp (
       ← c.is_valid.ensures,
-      not-false c.is_valid.result c.if-not-is_valid.false,
+      c.if-not-is_valid.false,
       c.lent_refusal.ensures,
       c.first-n13.ensures,
       c.first-n12.ensures,

@@ -23,7 +23,7 @@ sums c = (corrections c)
 pub returns-in_default : goal.returns-in_default
 returns-in_default c =
     let a = (entry c).args in
-    start_refused a.source a.factor a.nodata (buffers a.acc-1.now a.corr-1.now a.coarse.now a.table-1.now) _ c.begin-begun.ensures _
+    start_refused a.source a.factor a.nodata (buffers a.acc.now a.corr.now a.coarse.now a.table.now) _ c.begin-begun.ensures _
     (ap builder_outcome c.enum_told-1.given.1)
 
 pub returns : goal.returns
@@ -31,7 +31,7 @@ returns c =
     let given = (sums c) in
     let b = given in
     let a = (entry b).args in
-    started a.source a.factor a.nodata (buffers a.acc-1.now a.corr-1.now a.coarse.now a.table-1.now) _ b.begin-begun.ensures _
+    started a.source a.factor a.nodata (buffers a.acc.now a.corr.now a.coarse.now a.table.now) _ b.begin-begun.ensures _
     (ap builder_outcome given.begun-1.given.1) _ _ _ (sums c).clear.ensures (corrections c).clear-2.ensures (edges c).clear_edges.ensures
 
 pub shape_of-acc : goal.shape_of-acc

@@ -13,7 +13,7 @@ use Rattle.builder.proofs.hand_on.emit.Goals as goal
 fits : (c : tie.In-loop invariant-loop decreases-loop)
     → let n = c.loop-c.c in
     let a = c.args in
-    (n * 8 + 8 ≤ length a.dst-1.now) × (n + 8 ≤ length a.src.now) × (n + 8 ≤ length a.src.now / 8 * 8)
+    (n * 8 + 8 ≤ length a.dst.now) × (n + 8 ≤ length a.src.now) × (n + 8 ≤ length a.src.now / 8 * 8)
 fits c =
     let l = c.loop-c in
     run_fits l.c _ _ l.invariant.2 c.loop-c-test.true (c.requires (l.c + 7))
@@ -37,7 +37,7 @@ loop-c-preserved c =
       c.run.auto.0 ∙ l.invariant.0,
       (fits c).2,
       omega (arith, l.invariant.2),
-      rw (c.run.ensures, l.invariant.3) (run_turn a.src.now a.dst-1.now l.c l.invariant.2),
+      rw (c.run.ensures, l.invariant.3) (run_turn a.src.now a.dst.now l.c l.invariant.2),
     )
 
 pub rest-requires : goal.rest-requires
@@ -48,4 +48,4 @@ returns c =
     let l = c.loop-c in
     let a = c.args in
     rw (c.rest.ensures, l.invariant.3)
-    (run_end a.src.now a.dst-1.now l.c _ (omega (arith, l.invariant.1, c.loop-c-test.false)) (omega arith))
+    (run_end a.src.now a.dst.now l.c _ (omega (arith, l.invariant.1, c.loop-c-test.false)) (omega arith))

@@ -8,8 +8,8 @@ use borrow.Author.Rules.{rules}
 use Rattle.builder.proofs.hand_on.lay.Goals as goal
 
 -- the row's first cell is in the table
-first : (c : tie.After-cell-at) → c.Cell-at.result < length c.args.table-1.now
-first c = let s = c in rw s.requires.table-1 (start_inside _ _ _ _ c.Cell-at.ensures s.requires.inside)
+first : (c : tie.After-cell-at) → c.cell_at.result < length c.args.table.now
+first c = let s = c in rw s.requires.table (start_inside _ _ _ _ c.cell_at.ensures s.requires.inside)
 
 pub offset_bounds-table-start : goal.offset_bounds-table-start
 offset_bounds-table-start c = omega (arith, first c)
@@ -22,8 +22,8 @@ slice_bounds-emit-start c = omega (arith, first c)
 
 pub emit-requires : goal.emit-requires
 emit-requires c = λ k l.
-    run_inside _ _ _ _ k c.args.table-1.now c.Cell-at.ensures c.requires.table-1 c.requires.inside (rw c.requires.full at l)
+    run_inside _ _ _ _ k c.args.table.now c.cell_at.ensures c.requires.table c.requires.inside (rw c.requires.full at l)
 
 pub returns : goal.returns
 returns c =
-    rw c.emit.ensures (laid_row_lem _ _ _ c.args.table-1.now c.args.row.now c.Cell-at.ensures c.requires.full)
+    rw c.emit.ensures (laid_row_lem _ _ _ c.args.table.now c.args.row.now c.cell_at.ensures c.requires.full)

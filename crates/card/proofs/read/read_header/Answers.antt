@@ -26,7 +26,7 @@ returns-then-u32_at-ne0 c =
 pub returns-in-Made : goal.returns-in-Made
 unfolding read_header
 returns-in-Made c =
-    let e = rw c.made-1.given.1 at c.grid_at-made.ensures in
+    let e = rw c.in-Made.is at c.grid_at-made.ensures in
     simp (
       le-ltb _ _ c.if-card-gt-MOST_BYTES.false,
       le-ltb _ _ c.if-card-lt64.false,
@@ -39,7 +39,7 @@ returns-in-Made c =
 pub returns-in-Refused : goal.returns-in-Refused
 unfolding read_header
 returns-in-Refused c =
-    let e = rw c.made-in-Refused-1.given.1 at c.grid_at-made.ensures in
+    let e = rw c.in-Refused.is at c.grid_at-made.ensures in
     simp (
       le-ltb _ _ c.if-card-gt-MOST_BYTES.false,
       le-ltb _ _ c.if-card-lt64.false,

@@ -21,5 +21,5 @@ returns-in-Made c = decimation_read _ _ _ _ _ (made c) c.header_at.ensures c.wit
 
 pub returns-in-Refused : goal.returns-in-Refused
 returns-in-Refused c =
-    let e = rw (c.u32_at.ensures, c.made-in-Refused-1.given.1) at c.new-made.ensures in
+    let e = rw (c.u32_at.ensures, c.in-Refused.is) at c.new-made.ensures in
     rw (← e)

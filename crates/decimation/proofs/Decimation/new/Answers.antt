@@ -16,8 +16,8 @@ unfolding decimation_new
 returns-in-Made c =
     let s = c.args in
     let v = sym c.is_valid.ensures
-    ∙ not-false c.is_valid.result c.if-not-is_valid.false in
-    let answer = rw c.made-1.given.1 at c.coarse_grid-made.ensures in
+    ∙ c.if-not-is_valid.false in
+    let answer = rw c.in-Made.is at c.coarse_grid-made.ensures in
     let p = answered_passed (factor_refusal s.source s.factor) (coarse_grid s.source s.factor) _ (sym answer) in
     rw (v, p.0, p.1)
 
@@ -26,6 +26,6 @@ unfolding decimation_new
 returns-in-Refused c =
     let s = c.args in
     let v = sym c.is_valid.ensures
-    ∙ not-false c.is_valid.result c.if-not-is_valid.false in
-    let answer = rw c.made-in-Refused-1.given.1 at c.coarse_grid-made.ensures in
+    ∙ c.if-not-is_valid.false in
+    let answer = rw c.in-Refused.is at c.coarse_grid-made.ensures in
     rw v (sym (refused_alike (factor_refusal s.source s.factor) _ (coarse_grid s.source s.factor) _ (sym answer)))

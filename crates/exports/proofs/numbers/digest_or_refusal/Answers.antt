@@ -5,4 +5,4 @@ use borrow.Author.Rules.{rules}
 use Rattle.exports.proofs.numbers.digest_or_refusal.Goals as goal
 
 pub returns-in-Accepted : goal.returns-in-Accepted
-returns-in-Accepted c = rw c.answer-1.given.1 refl
+returns-in-Accepted c = rw c.in-Accepted.is refl

@@ -5,4 +5,4 @@ use borrow.Author.Rules.{rules}
 use Rattle.exports.proofs.numbers.km_or_minus_one.Goals as goal
 
 pub returns-in-Refused : goal.returns-in-Refused
-returns-in-Refused c = rw c.enum_told-1.given.1 refl
+returns-in-Refused c = rw c.in-Refused.is refl

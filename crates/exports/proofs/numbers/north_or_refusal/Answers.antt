@@ -5,4 +5,4 @@ use borrow.Author.Rules.{rules}
 use Rattle.exports.proofs.numbers.north_or_refusal.Goals as goal
 
 pub returns-in-Refused : goal.returns-in-Refused
-returns-in-Refused c = rw c.answer-in-Refused-1.given.1 refl
+returns-in-Refused c = rw c.in-Refused.is refl

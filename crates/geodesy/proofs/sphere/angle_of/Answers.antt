@@ -1,6 +1,5 @@
 -- `geodesy::sphere::angle_of` meets its contract.
 -- Assumes nothing.
-use borrow.Author.Rules.{rules}
 use Rattle.geodesy.specs.Sphere.{angle_of}
 use Rattle.geodesy.proofs.sphere.angle_of.Goals as goal
 

@@ -1,6 +1,5 @@
 -- `geodesy::sphere::angular_distance_rad` meets its contract.
 -- Assumes nothing.
-use borrow.Author.Rules.{rules}
 use Rattle.geodesy.specs.Sphere.{angular_distance_rad}
 use Rattle.geodesy.proofs.sphere.angular_distance_rad.Goals as goal
 

@@ -2,7 +2,6 @@
 -- Assumes nothing.
 use mathlib.Core.Path.{refl}
 use native.Mathlib.Omega.{arith}
-use borrow.Author.Rules.{rules}
 use Rattle.stand_ins.proofs.Laws.{product_small}
 use Rattle.geodesy.proofs.sphere.cosine_divisor.Goals as goal
 

@@ -1,9 +1,8 @@
 -- `geodesy::sphere::cosines` meets its contract: `Both` holds at each turn of its loop.
 -- Assumes nothing.
-use borrow.Author.Rules.{rules}
 use Rattle.stand_ins.specs.StandIns.{cos_of, cosine_term}
 use Rattle.stand_ins.proofs.Zeros.{cosine_turns}
-use Rattle.geodesy.proofs.Pairs.{Both, both_starts, both_again, both_ended}
+use Rattle.geodesy.proofs.Pairs.{both_starts, both_again, both_ended}
 use Rattle.geodesy.proofs.sphere.cosines.Goals as goal
 
 pub loop-k-init : goal.loop-k-init

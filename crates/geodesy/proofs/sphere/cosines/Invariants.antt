@@ -1,9 +1,7 @@
 -- `geodesy::sphere::cosines` meets its contract: `Both` holds at each turn of its loop.
 -- Assumes nothing.
-use borrow.Author.Rules.{rules}
-use Rattle.stand_ins.specs.StandIns.{cos_of, cosine_term}
-use Rattle.stand_ins.proofs.Zeros.{cosine_turns}
-use Rattle.geodesy.proofs.Pairs.{Both, both_starts, both_again, both_ended}
+use Rattle.stand_ins.specs.StandIns.{cosine_term}
+use Rattle.geodesy.proofs.Pairs.{Both}
 use Rattle.geodesy.proofs.sphere.cosines.Given as goal
 
 abbrev pub invariant-loop-k : goal.invariant-loop-k

@@ -1,6 +1,5 @@
 -- `geodesy::sphere::distance_rad` meets its contract.
 -- Assumes nothing.
-use borrow.Author.Rules.{rules}
 use Rattle.geodesy.specs.Sphere.{distance_rad}
 use Rattle.geodesy.proofs.sphere.distance_rad.Goals as goal
 

@@ -1,6 +1,5 @@
 -- `geodesy::sphere::great_circle_km` meets its contract.
 -- Assumes nothing.
-use borrow.Author.Rules.{rules}
 use Rattle.geodesy.specs.Sphere.{great_circle_km}
 use Rattle.geodesy.proofs.sphere.great_circle_km.Goals as goal
 

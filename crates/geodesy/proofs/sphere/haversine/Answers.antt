@@ -1,6 +1,5 @@
 -- `geodesy::sphere::haversine` meets its contract.
 -- Assumes nothing.
-use borrow.Author.Rules.{rules}
 use Rattle.geodesy.specs.Sphere.{haversine}
 use Rattle.geodesy.proofs.sphere.haversine.Goals as goal
 

@@ -1,10 +1,9 @@
 -- `geodesy::sphere::sines` meets its contract: `Both` holds at each turn of its loop.
 -- Assumes nothing.
-use borrow.Author.Rules.{rules}
 use lib.Ieee.{binary64, mul}
 use Rattle.stand_ins.specs.StandIns.{sin_of, sine_term}
 use Rattle.stand_ins.proofs.Zeros.{sine_turns}
-use Rattle.geodesy.proofs.Pairs.{Both, both_starts, both_again, both_ended}
+use Rattle.geodesy.proofs.Pairs.{both_starts, both_again, both_ended}
 use Rattle.geodesy.proofs.sphere.sines.Goals as goal
 
 pub loop-k-init : goal.loop-k-init

@@ -1,6 +1,5 @@
 -- `geodesy::sphere::wrap_lon` meets its contract.
 -- Assumes nothing.
-use borrow.Author.Rules.{rules}
 use Rattle.geodesy.specs.Sphere.{wrap_lon}
 use Rattle.geodesy.proofs.sphere.wrap_lon.Goals as goal
 

@@ -1,6 +1,5 @@
 -- `geodesy::sphere::zone_area_km2` meets its contract.
 -- Assumes nothing.
-use borrow.Author.Rules.{rules}
 use Rattle.geodesy.specs.Sphere.{zone_area_km2}
 use Rattle.geodesy.proofs.sphere.zone_area_km2.Goals as goal
 

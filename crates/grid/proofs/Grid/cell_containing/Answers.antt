@@ -28,7 +28,7 @@ returns c =
       ← c.is_finite.ensures,
       ← c.is_finite-2.ensures,
       c.if-not-is_finite.false,
-      c.Cell-at.ensures,
+      c.cell_at.ensures,
       c.col_of_lon.ensures,
       c.row_of_lat.ensures,
     )

@@ -6,4 +6,4 @@ use Rattle.grid.proofs.Grid.is_valid.Goals as goal
 
 pub returns : goal.returns
 unfolding valid_grid
-returns c = rw (c.is_Within.ensures, c.refusal.ensures)
+returns c = rw (c.is_within.ensures, c.refusal.ensures)

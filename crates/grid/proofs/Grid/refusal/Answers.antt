@@ -13,7 +13,7 @@ returns c =
       c.first-n3.ensures,
       c.first-n4.ensures,
       c.step_refusal-n5.ensures,
-      c.is_Within.ensures,
+      c.is_within-lat.ensures,
       c.is_finite-2.ensures,
       c.is_finite.ensures,
     )

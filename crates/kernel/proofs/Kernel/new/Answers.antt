@@ -14,13 +14,13 @@ unfolding kernel_new
 returns-then-n-ne-PASSED c =
     let a = c.args in
     let k = kernel_of a.grid a.centre a.radius in
-    let hs = half_widths_of a.grid a.centre a.radius a.half_widths-1.now in
-    rw (← c.kernel_refusal-n.ensures) (refused_all _ k a.half_widths-1.now hs c.if-n-ne-PASSED.true)
+    let hs = half_widths_of a.grid a.centre a.radius a.half_widths.now in
+    rw (← c.kernel_refusal-n.ensures) (refused_all _ k a.half_widths.now hs c.if-n-ne-PASSED.true)
 
 pub kernel_of-requires : goal.kernel_of-requires
 kernel_of-requires c =
     let a = c.args in
-    ready a.grid a.centre a.radius (length a.half_widths-1.now) (sym c.kernel_refusal-n.ensures ∙ c.if-n-ne-PASSED.false)
+    ready a.grid a.centre a.radius (length a.half_widths.now) (sym c.kernel_refusal-n.ensures ∙ c.if-n-ne-PASSED.false)
 
 pub returns : goal.returns
 unfolding kernel_new

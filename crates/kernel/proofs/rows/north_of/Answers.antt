@@ -20,7 +20,7 @@ loop-row-preserved c =
     let a = c.args in
     let e = sym (c.reaches.ensures ∙ ap (reached_by a.cap) c.lat_at.ensures) in
     let t = north_turn (row_reached_by a.g a.cap) c.loop-row.row (omega arith) in
-    (omega arith, t (e ∙ not-false _ c.if-not-reaches.false) ∙ c.loop-row.invariant.1)
+    (omega arith, t (e ∙ c.if-not-reaches.false) ∙ c.loop-row.invariant.1)
 
 pub returns-then-row-eq0 : goal.returns-then-row-eq0
 returns-then-row-eq0 c =
@@ -32,4 +32,4 @@ unfolding row_reached_by
 returns-then-not-reaches c =
     let a = c.args in
     let e = sym (c.reaches.ensures ∙ ap (reached_by a.cap) c.lat_at.ensures) in
-    (north_out (row_reached_by a.g a.cap) c.loop-row.row (e ∙ not-true _ c.if-not-reaches.true) ∙ c.loop-row.invariant.1, omega arith)
+    (north_out (row_reached_by a.g a.cap) c.loop-row.row (e ∙ c.if-not-reaches.true) ∙ c.loop-row.invariant.1, omega arith)

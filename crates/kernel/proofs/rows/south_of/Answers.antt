@@ -20,7 +20,7 @@ loop-row-preserved c =
     let a = c.args in
     let e = sym (c.reaches.ensures ∙ ap (reached_by a.cap) c.lat_at.ensures) in
     let t = climb_turn (row_reached_by a.g a.cap) a.last c.loop-row.row c.if-last-row.false in
-    (omega arith, omega arith, t (e ∙ not-false _ c.if-not-reaches.false) ∙ c.loop-row.invariant.2)
+    (omega arith, omega arith, t (e ∙ c.if-not-reaches.false) ∙ c.loop-row.invariant.2)
 
 pub returns-then-last-row : goal.returns-then-last-row
 unfolding south_of
@@ -34,5 +34,5 @@ unfolding south_of row_reached_by
 returns-then-not-reaches c =
     let a = c.args in
     let e = sym (c.reaches.ensures ∙ ap (reached_by a.cap) c.lat_at.ensures) in
-    let t = climb_out (row_reached_by a.g a.cap) a.last c.loop-row.row (e ∙ not-true _ c.if-not-reaches.true) in
+    let t = climb_out (row_reached_by a.g a.cap) a.last c.loop-row.row (e ∙ c.if-not-reaches.true) in
     (t ∙ c.loop-row.invariant.2, omega arith, omega arith)

@@ -19,7 +19,7 @@ returns-then-not-is_valid c = simp (← c.is_valid.ensures, c.if-not-is_valid.tr
 
 pub overflow_mul-cells : goal.overflow_mul-cells
 overflow_mul-cells c =
-    let s = grid_sized _ (sym c.is_valid.ensures ∙ not-false _ c.if-not-is_valid.false) in
+    let s = grid_sized _ (sym c.is_valid.ensures ∙ c.if-not-is_valid.false) in
     omega (arith, row_length_fits _ _ s.columns s.lines)
 
 pub returns : goal.returns

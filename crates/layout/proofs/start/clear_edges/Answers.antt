@@ -12,7 +12,7 @@ use borrow.Author.Rules.{rules}
 use Rattle.layout.proofs.start.clear_edges.Goals as goal
 
 -- a row that starts inside the table has no larger number than its start
-in_range : (c : tie.In-loop invariant-loop decreases-loop) → c.loop-start.row < length c.args.table-1.now
+in_range : (c : tie.In-loop invariant-loop decreases-loop) → c.loop-start.row < length c.args.table.now
 in_range c =
     let l = c.loop-start in
     omega (arith, row_before c.args.grid.width l.row 0, l.invariant.0, l.invariant.1, c.loop-start-test.true)
@@ -44,7 +44,7 @@ loop-start-preserved c =
     let a = c.args in (
       c.clear_from.auto.0 ∙ l.invariant.0,
       c.place-start.ensures,
-      rw (c.clear_from.ensures, c.first_cleared.ensures, l.invariant.2) (rows_turn a.grid.width a.grid.height a.table-1.now l.row),
+      rw (c.clear_from.ensures, c.first_cleared.ensures, l.invariant.2) (rows_turn a.grid.width a.grid.height a.table.now l.row),
     )
 
 pub returns : goal.returns

@@ -16,7 +16,7 @@ overflow_mul-col c = omega (arith, c.blocks_over-col.ensures, few_blocks c.args.
 
 pub loop-col-init : goal.loop-col-init
 loop-col-init c =
-    rw c.blocks_over-col.ensures (refl, c.requires.1, omega arith, clear_start c.args.width c.args.row c.args.table-1.now)
+    rw c.blocks_over-col.ensures (refl, c.requires.1, omega arith, clear_start c.args.width c.args.row c.args.table.now)
 
 pub place-requires : goal.place-requires
 place-requires c =
@@ -29,7 +29,7 @@ loop-col-preserved c =
     let l = c.loop-col in
     let on = c.loop-col-test.true in
     let one : suc (l.col - 1) ≡ l.col = omega (arith, on) in
-    let done = clear_turn c.args.width c.args.row c.args.table-1.now (l.col - 1) (omega (arith, l.invariant.2, on)) in (
+    let done = clear_turn c.args.width c.args.row c.args.table.now (l.col - 1) (omega (arith, l.invariant.2, on)) in (
       c.clear.auto.0 ∙ l.invariant.0,
       omega (arith, on),
       omega (arith, l.invariant.2),

@@ -1,6 +1,5 @@
 -- `raster::CellTallies::plus` meets its contract.
 -- Assumes nothing.
-use borrow.Author.Rules.{rules}
 use Rattle.raster.proofs.CellTallies.plus.Goals as goal
 
 pub returns : goal.returns

@@ -25,10 +25,10 @@ fits : (b : tie.After-row-buffer3 invariant-loop decreases-loop) → Sizes (entr
 fits b = sizes (entry b).requires.0
 
 pub slice_bounds-row-end : goal.slice_bounds-row-end
-slice_bounds-row-end c = front_inside c.words_buffer-row.ensures (fits c).row-1
+slice_bounds-row-end c = front_inside c.words_buffer-row.ensures (fits c).row
 
 pub slice_bounds-row-end-2 : goal.slice_bounds-row-end-2
-slice_bounds-row-end-2 c = let b = c in front_length _ b.words_buffer-row.ensures (fits b).row-1
+slice_bounds-row-end-2 c = let b = c in front_length _ b.words_buffer-row.ensures (fits b).row
 
 pub slice_bounds-acc-end : goal.slice_bounds-acc-end
 slice_bounds-acc-end c = let b = c in front_inside (zeros_length 1024 b.row_buffer-acc.ensures) (fits b).width
@@ -58,7 +58,7 @@ returns-in-Refused c =
     let b = made c in
     let s = entry b in
     let empty = emptied s.pre.0 b.row_buffer-acc.ensures b.row_buffer-corr.ensures b.row_buffer-coarse.ensures s.pre.1 in
-    never_refused s.pre.0 empty (rw c.started-in-Refused-1.given.1 at c.start-started.ensures.0)
+    never_refused s.pre.0 empty (rw c.in-Refused.is at c.start-started.ensures.0)
 
 -- ---- the rows
 pub loop-built-init : goal.loop-built-init
@@ -68,7 +68,7 @@ loop-built-init c =
     let s = entry b in
     let empty = emptied s.pre.0 b.row_buffer-acc.ensures b.row_buffer-corr.ensures b.row_buffer-coarse.ensures s.pre.1 in
     let first = started s.pre.0 empty (rw c.started-1.given.1 at start.0) start.1 in
-    (first.1, first.0, sym (front_length _ b.words_buffer-row.ensures (fits b).row-1), refl)
+    (first.1, first.0, sym (front_length _ b.words_buffer-row.ensures (fits b).row), refl)
 
 -- by `omega`, so that the edit that reads the first row again is refused for what it reads, and not here
 pub row_at-requires : goal.row_at-requires

@@ -5,7 +5,7 @@ use Rattle.refusal.proofs.Chains.{answered_same, never}
 use Rattle.report.proofs.build.kept.Goals as goal
 
 pub returns-in-Accepted : goal.returns-in-Accepted
-returns-in-Accepted c = λ b e. answered_same (rw c.answer-1.given.1 at e)
+returns-in-Accepted c = λ b e. answered_same (rw c.in-Accepted.is at e)
 
 pub returns-in-Refused : goal.returns-in-Refused
-returns-in-Refused c = λ b e. never (rw c.enum_told-1.given.1 at e)
+returns-in-Refused c = λ b e. never (rw c.in-Refused.is at e)

@@ -13,10 +13,10 @@ pub returns-in-Accepted : goal.returns-in-Accepted
 unfolding printed
 returns-in-Accepted c =
     let report = c.report.ensures in
-    rw (← rw c.header-1.given.1 at c.read_header-header.ensures) (report.size, report.left, report.bounded)
+    rw (← rw c.in-Accepted.is at c.read_header-header.ensures) (report.size, report.left, report.bounded)
 
 pub returns-in-Refused : goal.returns-in-Refused
 unfolding printed
 returns-in-Refused c =
     let Put-refused = c.Put-refused.ensures in
-    rw (← rw c.header-in-Refused-1.given.1 at c.read_header-header.ensures) (Put-refused.size, Put-refused.left, Put-refused.bounded)
+    rw (← rw c.in-Refused.is at c.read_header-header.ensures) (Put-refused.size, Put-refused.left, Put-refused.bounded)

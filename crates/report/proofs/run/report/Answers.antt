@@ -26,8 +26,8 @@ put_circles-requires c =
 pub returns-in-Finished : goal.returns-in-Finished
 returns-in-Finished c =
     let put-circles = c.put_circles.ensures in
-    report_printed c.requires (rw c.built-1.given.1 at c.build-built.ensures) c.put_summary-at.ensures put-circles
+    report_printed c.requires (rw c.in-Finished.is at c.build-built.ensures) c.put_summary-at.ensures put-circles
 
 pub returns-in-Refused : goal.returns-in-Refused
 returns-in-Refused c =
-    never (rw c.built-in-Refused-1.given.1 at c.build-built.ensures.table-1)
+    never (rw c.in-Refused.is at c.build-built.ensures.table)

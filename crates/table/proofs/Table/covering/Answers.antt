@@ -6,16 +6,16 @@ use Rattle.table.proofs.Table.covering.Goals as goal
 
 pub returns-in-Refused : goal.returns-in-Refused
 unfolding covering
-returns-in-Refused c = simp (← c.cell-first.ensures, c.first-1.given.1)
+returns-in-Refused c = simp (← c.cell-first.ensures, c.in-Refused.is)
 
 pub returns-in-Refused-last : goal.returns-in-Refused-last
 unfolding covering
 returns-in-Refused-last c =
     simp (
       ← c.cell-first.ensures,
-      c.first-in-Cell-1.given.1,
+      c.in-Refused-last.is,
       ← c.cell-last.ensures,
-      c.last-1.given.1,
+      c.in-Refused-last.is,
     )
 
 pub returns : goal.returns

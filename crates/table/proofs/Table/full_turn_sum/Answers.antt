@@ -12,18 +12,18 @@ use Rattle.table.proofs.Table.full_turn_sum.Goals as goal
 
 pub returns-then-not-holds : goal.returns-then-not-holds
 unfolding div of_bits
-returns-then-not-holds c = not_held _ _ _ _ (sym c.holds.ensures ∙ not-true _ c.if-not-holds.true)
+returns-then-not-holds c = not_held _ _ _ _ (sym c.holds.ensures ∙ c.if-not-holds.true)
 
 pub lines_of-requires : goal.lines_of-requires
-lines_of-requires c = omega (arith, (held_facts _ _ _ _ (sym c.holds.ensures ∙ not-false _ c.if-not-holds.false)).south)
+lines_of-requires c = omega (arith, (held_facts _ _ _ _ (sym c.holds.ensures ∙ c.if-not-holds.false)).south)
 
 pub box_sum-requires : goal.box_sum-requires
 box_sum-requires c =
-    let h = held_facts _ _ _ _ (sym c.holds.ensures ∙ not-false _ c.if-not-holds.false) in
+    let h = held_facts _ _ _ _ (sym c.holds.ensures ∙ c.if-not-holds.false) in
     (lines_ordered _ _ _ _ h _ c.lines_of.ensures, omega arith, lines_inside _ _ _ _ h _ c.lines_of.ensures)
 
 pub returns : goal.returns
 unfolding rectangle_sum
 returns c =
-    let h = held_facts _ _ _ _ (sym c.holds.ensures ∙ not-false _ c.if-not-holds.false) in
+    let h = held_facts _ _ _ _ (sym c.holds.ensures ∙ c.if-not-holds.false) in
     c.box_sum.ensures ∙ sum_by_lines _ _ _ _ _ c.lines_of.ensures FullTurn ∙ sym (held_sum_lem _ _ _ _ h)

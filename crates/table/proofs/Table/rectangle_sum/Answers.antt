@@ -25,8 +25,8 @@ through-requires c =
 pub returns-in-FullTurn : goal.returns-in-FullTurn
 unfolding rectangle_sum
 returns-in-FullTurn c =
-    rw c.enum_told-1.given.1 (c.box_sum.ensures ∙ sum_by_lines _ _ _ _ _ c.lines_of-lines.ensures FullTurn)
+    rw c.in-FullTurn.is (c.box_sum.ensures ∙ sum_by_lines _ _ _ _ _ c.lines_of-lines.ensures FullTurn)
 
 pub returns-in-Through : goal.returns-in-Through
 returns-in-Through c =
-    rw c.cols-1.given.1 (c.through.ensures ∙ sum_by_lines _ _ _ _ _ c.lines_of-lines.ensures _)
+    rw c.in-Through.is (c.through.ensures ∙ sum_by_lines _ _ _ _ _ c.lines_of-lines.ensures _)

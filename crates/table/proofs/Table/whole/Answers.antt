@@ -14,7 +14,7 @@ returns-then-not-is_valid c = simp (← c.is_valid.ensures, c.if-not-is_valid.tr
 
 pub overflow_sub-grid : goal.overflow_sub-grid
 overflow_sub-grid c =
-    omega (arith, (grid_sized _ (sym c.is_valid.ensures ∙ not-false _ c.if-not-is_valid.false)).high)
+    omega (arith, (grid_sized _ (sym c.is_valid.ensures ∙ c.if-not-is_valid.false)).high)
 
 pub returns : goal.returns
 unfolding whole_extent

@@ -8,16 +8,16 @@ returns-then-window c = simp c.if-window.true
 
 pub returns-in-Refused : goal.returns-in-Refused
 returns-in-Refused c =
-    simp (c.if-window.false, ← c.cell-first.ensures, c.first-1.given.1)
+    simp (c.if-window.false, ← c.cell-first.ensures, c.in-Refused.is)
 
 pub returns-in-Refused-last : goal.returns-in-Refused-last
 returns-in-Refused-last c =
     simp (
       c.if-window.false,
       ← c.cell-first.ensures,
-      c.first-in-Cell-1.given.1,
+      c.in-Refused-last.is,
       ← c.cell-last.ensures,
-      c.last-1.given.1,
+      c.in-Refused-last.is,
     )
 
 pub returns : goal.returns

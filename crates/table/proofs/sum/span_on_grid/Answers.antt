@@ -4,7 +4,7 @@ use borrow.Author.Rules.{rules}
 use Rattle.table.proofs.sum.span_on_grid.Goals as goal
 
 pub returns-in-FullTurn : goal.returns-in-FullTurn
-returns-in-FullTurn c = rw c.enum_told-1.given.1
+returns-in-FullTurn c = rw c.in-FullTurn.is
 
 pub returns-in-Through : goal.returns-in-Through
-returns-in-Through c = rw c.cols-1.given.1
+returns-in-Through c = rw c.in-Through.is
