@@ -1,7 +1,6 @@
 -- `kernel::cap_over` meets its contract.
 -- Assumes nothing.
 use Rattle.kernel.specs.Kernel.{cap_over}
-use borrow.Author.Rules.{rules}
 use Rattle.kernel.proofs.cap_over.Goals as goal
 
 pub returns : goal.returns

@@ -1,7 +1,6 @@
 -- `kernel::kernel_of` meets its contract.
 -- Assumes nothing.
 use Rattle.kernel.proofs.Together.{made_point, made_cap}
-use borrow.Author.Rules.{rules}
 use Rattle.kernel.proofs.kernel_of.Goals as goal
 
 pub returns-then-radius : goal.returns-then-radius
@@ -15,6 +14,3 @@ returns c =
     made_cap a.g a.centre a.radius a.half_widths.now _ _ _ _ _ _ c.if-radius.false c.lat_at.ensures
     c.cap_over.ensures
     c.cap_terms-cap.ensures c.north_of-north.ensures.0 c.south_of-south.ensures.0 c.fill.ensures
-
-pub shape_of-half_widths : goal.shape_of-half_widths
-shape_of-half_widths c = c.fill.auto.1.1.1.1.0

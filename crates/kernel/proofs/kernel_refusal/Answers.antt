@@ -1,7 +1,6 @@
 -- `kernel::kernel_refusal` meets its contract.
 -- Assumes nothing.
 use Rattle.kernel.specs.Kernel.{kernel_refusal}
-use borrow.Author.Rules.{rules}
 use Rattle.kernel.proofs.kernel_refusal.Goals as goal
 
 pub returns : goal.returns

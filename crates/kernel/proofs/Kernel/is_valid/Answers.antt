@@ -3,7 +3,6 @@
 use mathlib.Core.Bool.{and-true, and-false}
 use borrow.Author.Tests.{lt-leb, le-leb}
 use Rattle.kernel.specs.Kernel.{valid_kernel}
-use borrow.Author.Rules.{rules}
 use Rattle.kernel.proofs.Kernel.is_valid.Goals as goal
 
 pub returns-then-half_widths-count : goal.returns-then-half_widths-count

@@ -6,7 +6,6 @@ use Rattle.refusal.specs.Refusal.{answered}
 use Rattle.kernel.specs.Kernel.{kernel_of, half_widths_of, kernel_new}
 use Rattle.kernel.proofs.Together.{refused_all}
 use Rattle.kernel.proofs.Rules.{ready}
-use borrow.Author.Rules.{rules}
 use Rattle.kernel.proofs.Kernel.new.Goals as goal
 
 pub returns-then-n-ne-PASSED : goal.returns-then-n-ne-PASSED
@@ -27,6 +26,3 @@ unfolding kernel_new
 returns c =
     let z = sym c.kernel_refusal-n.ensures ∙ c.if-n-ne-PASSED.false in
     (rw z (ap answered c.kernel_of.ensures.0), rw z c.kernel_of.ensures.1)
-
-pub shape_of-half_widths : goal.shape_of-half_widths
-shape_of-half_widths c = c.kernel_of.auto.1.1.1.0

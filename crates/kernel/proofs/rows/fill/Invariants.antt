@@ -1,13 +1,9 @@
 -- `kernel::rows::fill` meets its contract.
 -- Assumes nothing.
-use mathlib.Core.Path.{◌≡◌, refl, ◌∙◌, ap}
-use native.Mathlib.Omega.{arith}
-use Prim.Native.Nat.{◌≤◌, ◌-◌, ◌+◌}
-use lib.ListN.{length, length-set}
-use Rattle.cap.specs.Terms.{half_width_by}
+use mathlib.Core.Path.{◌≡◌}
+use Prim.Native.Nat.{◌≤◌, ◌-◌}
+use lib.ListN.{length}
 use Rattle.kernel.specs.private.Rows.{row_width_by, widths_after}
-use Rattle.kernel.proofs.Steps.{width_turn}
-use borrow.Author.Rules.{rules}
 use Rattle.kernel.proofs.rows.fill.Given as goal
 
 abbrev pub invariant-loop-i : goal.invariant-loop-i

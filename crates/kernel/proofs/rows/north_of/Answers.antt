@@ -1,12 +1,9 @@
 -- `kernel::rows::north_of` meets its contract.
 -- Assumes nothing.
-use mathlib.Core.Path.{◌≡◌, refl, sym, ◌∙◌, ap}
+use mathlib.Core.Path.{refl, sym, ◌∙◌, ap}
 use native.Mathlib.Omega.{arith}
-use Prim.Native.Nat.{◌≤◌}
-use borrow.Author.Tests.{not-true, not-false}
 use Rattle.cap.specs.Terms.{reached_by}
 use Rattle.kernel.specs.private.Rows.{row_reached_by}
-use Rattle.kernel.specs.Walks.{north_of}
 use Rattle.kernel.proofs.Steps.{north_turn, north_out, north_end}
 use borrow.Author.Rules.{rules}
 use Rattle.kernel.proofs.rows.north_of.Goals as goal

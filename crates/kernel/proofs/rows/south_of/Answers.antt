@@ -1,9 +1,7 @@
 -- `kernel::rows::south_of` meets its contract.
 -- Assumes nothing.
-use mathlib.Core.Path.{◌≡◌, refl, sym, ◌∙◌, ap}
+use mathlib.Core.Path.{refl, sym, ◌∙◌, ap}
 use native.Mathlib.Omega.{arith}
-use Prim.Native.Nat.{◌≤◌, ◌-◌}
-use borrow.Author.Tests.{not-true, not-false}
 use Rattle.cap.specs.Terms.{reached_by}
 use Rattle.kernel.specs.private.Rows.{row_reached_by}
 use Rattle.kernel.specs.Walks.{south_of}

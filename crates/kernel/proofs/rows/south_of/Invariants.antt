@@ -1,14 +1,9 @@
 -- `kernel::rows::south_of` meets its contract.
 -- Assumes nothing.
-use mathlib.Core.Path.{◌≡◌, refl, sym, ◌∙◌, ap}
-use native.Mathlib.Omega.{arith}
+use mathlib.Core.Path.{◌≡◌}
 use Prim.Native.Nat.{◌≤◌, ◌-◌}
-use borrow.Author.Tests.{not-true, not-false}
-use Rattle.cap.specs.Terms.{reached_by}
 use Rattle.kernel.specs.private.Rows.{row_reached_by}
 use Rattle.kernel.specs.Walks.{south_of}
-use Rattle.cap.proofs.Steps.{climb_turn, climb_out, climb_end}
-use borrow.Author.Rules.{rules}
 use Rattle.kernel.proofs.rows.south_of.Given as goal
 
 abbrev pub invariant-loop-row : goal.invariant-loop-row

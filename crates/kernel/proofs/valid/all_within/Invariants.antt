@@ -1,13 +1,10 @@
 -- `kernel::valid::all_within` meets its contract.
 -- Assumes nothing.
-use mathlib.Core.Path.{◌≡◌, refl, ◌∙◌}
+use mathlib.Core.Path.{◌≡◌}
 use mathlib.Core.Bool.{◌&&◌}
-use native.Mathlib.Omega.{arith}
 use Prim.Native.Nat.{◌≤◌, ◌-◌}
 use lib.ListN.{take, drop}
 use Rattle.kernel.specs.Kernel.{all_within}
-use Rattle.kernel.proofs.Entries.{within_turn, within_end}
-use borrow.Author.Rules.{rules}
 use Rattle.kernel.proofs.valid.all_within.Given as goal
 
 abbrev pub invariant-loop-i : goal.invariant-loop-i

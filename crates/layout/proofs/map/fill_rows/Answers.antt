@@ -1,11 +1,12 @@
 -- `layout::map::fill_rows` meets its contract.
 -- Assumes nothing.
 use mathlib.Core.Path.{◌≡◌, refl, ap, ◌∙◌}
-use Prim.Native.Nat.{suc, ◌-◌, ◌<◌, ◌≤◌}
+use Prim.Native.Nat.{ℕ, suc, ◌-◌, ◌<◌, ◌≤◌}
 use native.Mathlib.Numerals.{add-one}
 use native.Mathlib.Omega.{arith}
 use lib.ListN.{length, length-set}
-use Rattle.layout.specs.Place.{cell_at, corner}
+use Rattle.std.specs.Prelude.{List, Float}
+use Rattle.layout.specs.Place.{cell_at, corner, payload_length}
 use Rattle.layout.specs.Rows.{row_cell_at}
 use Rattle.layout.specs.Map.{to_rows}
 use Rattle.layout.proofs.Entries.{copied}
@@ -15,30 +16,36 @@ use Rattle.layout.proofs.Maps.{row_on, row_turn, row_end}
 use borrow.Author.Rules.{rules, scaled_Fits}
 use Rattle.layout.proofs.map.fill_rows.Goals as goal
 
--- the cell is the table's, and so within the blocks
-on : (c : tie.In-loop invariant-loop decreases-loop) → c.loop-at.cell.row ≤ c.args.grid.height
-on c =
-    let l = c.loop-at in
-    row_on _ _ l.at _ _ l.invariant.2 l.invariant.3 (omega (arith, c.requires.rows))
-
-inside : (c : tie.In-loop invariant-loop decreases-loop)
-    → let a = c.args in cell_at a.grid.width c.loop-at.cell.row c.loop-at.cell.col < length a.blocks.now
-inside c = rw c.requires.blocks (cell_inside _ _ _ _ (on c) c.loop-at.invariant.3)
+-- a cell of the table is within the blocks
+inside : (width height row col : ℕ) (blocks : List Float) → length blocks ≡ payload_length width height → row ≤ height → col ≤ width → cell_at width row col < length blocks
+inside width height row col blocks full on across = rw full (cell_inside width height row col on across)
 
 pub loop-at-init : goal.loop-at-init
 loop-at-init c = (refl, omega arith, first_row_place _, omega arith, refl)
 
 pub place-requires : goal.place-requires
-place-requires c = omega (arith, inside c)
+place-requires c =
+    let l = c.loop-at in
+    let on = row_on c.args.grid.width c.args.grid.height l.at l.cell.row l.cell.col l.invariant.2 l.invariant.3 (omega (arith, c.requires.rows)) in
+    omega (arith, inside _ _ _ _ _ c.requires.blocks on l.invariant.3)
 
 pub offset_bounds-blocks-place : goal.offset_bounds-blocks-place
-offset_bounds-blocks-place c = scaled_Fits _ _ 8 (rw c.place.ensures (inside c)) c.well_formed.1.0.1
+offset_bounds-blocks-place c =
+    let l = c.loop-at in
+    let on = row_on c.args.grid.width c.args.grid.height l.at l.cell.row l.cell.col l.invariant.2 l.invariant.3 (omega (arith, c.requires.rows)) in
+    scaled_Fits _ _ 8 (rw c.place.ensures (inside _ _ _ _ _ c.requires.blocks on l.invariant.3)) c.well_formed.1.0.1
 
 pub bounds-blocks-place : goal.bounds-blocks-place
-bounds-blocks-place c = rw c.place.ensures (inside c)
+bounds-blocks-place c =
+    let l = c.loop-at in
+    let on = row_on c.args.grid.width c.args.grid.height l.at l.cell.row l.cell.col l.invariant.2 l.invariant.3 (omega (arith, c.requires.rows)) in
+    rw c.place.ensures (inside _ _ _ _ _ c.requires.blocks on l.invariant.3)
 
 pub next_in_row-cell-requires : goal.next_in_row-cell-requires
-next_in_row-cell-requires c = (c.loop-at.invariant.3, omega (arith, on c))
+next_in_row-cell-requires c =
+    let l = c.loop-at in
+    let on = row_on c.args.grid.width c.args.grid.height l.at l.cell.row l.cell.col l.invariant.2 l.invariant.3 (omega (arith, c.requires.rows)) in
+    (l.invariant.3, omega (arith, on))
 
 pub loop-at-preserved : goal.loop-at-preserved
 unfolding corner

@@ -10,7 +10,7 @@ use borrow.Author.Rules.{rules, scaled_Fits}
 use Rattle.layout.proofs.map.padded.Goals as goal
 
 -- the place is within the rows
-inside : (c : tie.Then1) → let a = c.args in a.cell.row * (a.grid.width + 1) + a.cell.col < length a.rows.now
+inside : (c : goal.Then-row-grid) → let a = c.args in a.cell.row * (a.grid.width + 1) + a.cell.col < length a.rows.now
 inside c =
     let a = c.args in
     let on = cell_is a.grid.width a.grid.height a.cell.row a.cell.col c.if-row-grid.true in
@@ -26,7 +26,10 @@ pub offset_bounds-rows-row : goal.offset_bounds-rows-row
 offset_bounds-rows-row c = scaled_Fits _ _ 8 (inside c) c.well_formed.1.0.1
 
 pub bounds-rows-row : goal.bounds-rows-row
-bounds-rows-row c = inside c
+bounds-rows-row c =
+    let a = c.args in
+    let on = cell_is a.grid.width a.grid.height a.cell.row a.cell.col c.if-row-grid.true in
+    rw (c.requires, row_place_is) (row_cell_inside _ a.grid.height _ _ on.0 on.1)
 
 pub returns-then-row-grid : goal.returns-then-row-grid
 unfolding row_corner

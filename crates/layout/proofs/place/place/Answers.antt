@@ -9,7 +9,7 @@ use borrow.Author.Rules.{rules}
 use Rattle.layout.proofs.place.place.Goals as goal
 
 -- the place, whose parts are no more than it
-whole : (c : tie.After-blocks-over)
+whole : (c : goal.After-blocks_over)
     → let a = c.args in (a.row / 8 * c.blocks_over.result + a.col / 8) * 64 + a.row % 8 * 8 + a.col % 8 ≡ cell_at a.width a.row a.col
 whole c = place_is _ _ _ _ c.blocks_over.ensures
 

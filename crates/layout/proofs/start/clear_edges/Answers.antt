@@ -11,12 +11,6 @@ use Rattle.layout.proofs.Cleared.{rows_cleared, first_within, rows_start, rows_t
 use borrow.Author.Rules.{rules}
 use Rattle.layout.proofs.start.clear_edges.Goals as goal
 
--- a row that starts inside the table has no larger number than its start
-in_range : (c : tie.In-loop invariant-loop decreases-loop) → c.loop-start.row < length c.args.table.now
-in_range c =
-    let l = c.loop-start in
-    omega (arith, row_before c.args.grid.width l.row 0, l.invariant.0, l.invariant.1, c.loop-start-test.true)
-
 pub loop-start-init : goal.loop-start-init
 loop-start-init c = (refl, sym (first_place _), rows_start _ _ _)
 
@@ -27,7 +21,10 @@ clear_from-requires c =
     (omega (arith, l.invariant.1, c.loop-start-test.true), rw c.first_cleared.ensures (first_within g.width g.height l.row))
 
 pub overflow_add-row : goal.overflow_add-row
-overflow_add-row c = omega (arith, in_range c)
+-- a row that starts inside the table has no larger number than its start
+overflow_add-row c =
+    let l = c.loop-start in
+    omega (arith, row_before c.args.grid.width l.row 0, l.invariant.0, l.invariant.1, c.loop-start-test.true)
 
 pub place-start-requires : goal.place-start-requires
 place-start-requires c =
@@ -36,13 +33,15 @@ place-start-requires c =
     rw (add-one l.row) (omega (arith, l.invariant.1, c.loop-start-test.true, row_behind w l.row, few_blocks w (omega arith)))
 
 pub loop-start-smaller : goal.loop-start-smaller
-loop-start-smaller c = omega (arith, in_range c)
+loop-start-smaller c =
+    let l = c.loop-start in
+    omega (arith, row_before c.args.grid.width l.row 0, l.invariant.0, l.invariant.1, c.loop-start-test.true)
 
 pub loop-start-preserved : goal.loop-start-preserved
 loop-start-preserved c =
     let l = c.loop-start in
     let a = c.args in (
-      c.clear_from.auto.0 ∙ l.invariant.0,
+      c.clear_from.auto.table ∙ l.invariant.0,
       c.place-start.ensures,
       rw (c.clear_from.ensures, c.first_cleared.ensures, l.invariant.2) (rows_turn a.grid.width a.grid.height a.table.now l.row),
     )

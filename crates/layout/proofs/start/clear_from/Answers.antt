@@ -30,7 +30,7 @@ loop-col-preserved c =
     let on = c.loop-col-test.true in
     let one : suc (l.col - 1) ≡ l.col = omega (arith, on) in
     let done = clear_turn c.args.width c.args.row c.args.table.now (l.col - 1) (omega (arith, l.invariant.2, on)) in (
-      c.clear.auto.0 ∙ l.invariant.0,
+      c.clear.auto.table ∙ l.invariant.0,
       omega (arith, on),
       omega (arith, l.invariant.2),
       rw (c.clear.ensures, c.place.ensures, l.invariant.3) (rw one at done),

@@ -13,7 +13,7 @@ unfolding covering
 returns-in-Refused-last c =
     simp (
       ← c.cell-first.ensures,
-      c.in-Refused-last.is,
+      c.in-Cell.is,
       ← c.cell-last.ensures,
       c.in-Refused-last.is,
     )
@@ -23,8 +23,8 @@ unfolding covering
 returns c =
     rw (
       ← c.cell-first.ensures,
-      c.first-in-Cell-1.given.1,
+      c.in-Cell.is,
       ← c.cell-last.ensures,
-      c.last-in-Cell-last-1.given.1,
+      c.in-Cell-last.is,
       ← c.new.ensures,
     ) c.with_columns.ensures

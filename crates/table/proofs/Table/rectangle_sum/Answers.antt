@@ -19,7 +19,7 @@ box_sum-requires c =
 pub through-requires : goal.through-requires
 through-requires c =
     let h = c.requires in
-    let on = held_columns _ _ _ _ h _ _ c.cols-1.given.1 in
+    let on = held_columns _ _ _ _ h _ _ c.in-Through.is in
     (lines_ordered _ _ _ _ h _ c.lines_of-lines.ensures, on.0, on.1, lines_inside _ _ _ _ h _ c.lines_of-lines.ensures)
 
 pub returns-in-FullTurn : goal.returns-in-FullTurn

@@ -15,7 +15,7 @@ returns-in-Refused-last c =
     simp (
       c.if-window.false,
       ← c.cell-first.ensures,
-      c.in-Refused-last.is,
+      c.in-Cell.is,
       ← c.cell-last.ensures,
       c.in-Refused-last.is,
     )
@@ -25,7 +25,7 @@ returns c =
     simp (
       c.if-window.false,
       ← c.cell-first.ensures,
-      c.first-in-Cell-1.given.1,
+      c.in-Cell.is,
       ← c.cell-last.ensures,
-      c.last-in-Cell-last-1.given.1,
+      c.in-Cell-last.is,
     )

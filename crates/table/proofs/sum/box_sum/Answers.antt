@@ -1,6 +1,7 @@
 -- `table::sum::box_sum` meets its contract.
 -- Assumes nothing.
-use Prim.Native.Nat.{◌+◌, ◌≤◌, ◌<◌}
+use mathlib.Core.Path.{ap}
+use Prim.Native.Nat.{ℕ, ◌+◌, ◌≤◌, ◌<◌}
 use native.Mathlib.Omega.{arith}
 use lib.ListN.{length}
 use Rattle.layout.proofs.Places.{runs_in_order}
@@ -8,24 +9,21 @@ use Rattle.table.specs.Rectangle.{box_sum}
 use borrow.Author.Rules.{rules}
 use Rattle.table.proofs.sum.box_sum.Goals as goal
 
--- the south-east cell is in the table, and no column stands farther
-inside : (c : tie.After-run-at2)
-    → let a = c.args in
-    (a.lines.bottom + c.run_at-right.result < length a.cells.now) × (c.run_at-left.result ≤ c.run_at-right.result) × (a.lines.top ≤ a.lines.bottom)
-inside c =
-    (rw c.run_at-right.ensures c.requires.2, rw (c.run_at-right.ensures, c.run_at-left.ensures) (runs_in_order _ _ c.requires.1), c.requires.0)
-
 pub corner-se-requires : goal.corner-se-requires
-corner-se-requires c = (inside c).0
+-- the south-east cell is in the table, and no column stands farther
+corner-se-requires c = rw c.run_at-right.ensures c.requires.2
 
 pub corner-ne-requires : goal.corner-ne-requires
-corner-ne-requires c = omega (arith, inside c)
+corner-ne-requires c =
+    omega (arith, ap (λ (n : ℕ). c.args.lines.bottom + n) c.run_at-right.ensures, c.run_at-left.ensures, runs_in_order _ _ c.requires.1, c.requires)
 
 pub corner-sw-requires : goal.corner-sw-requires
-corner-sw-requires c = omega (arith, inside c)
+corner-sw-requires c =
+    omega (arith, ap (λ (n : ℕ). c.args.lines.bottom + n) c.run_at-right.ensures, c.run_at-left.ensures, runs_in_order _ _ c.requires.1, c.requires)
 
 pub corner-nw-requires : goal.corner-nw-requires
-corner-nw-requires c = omega (arith, inside c)
+corner-nw-requires c =
+    omega (arith, ap (λ (n : ℕ). c.args.lines.bottom + n) c.run_at-right.ensures, c.run_at-left.ensures, runs_in_order _ _ c.requires.1, c.requires)
 
 pub returns : goal.returns
 unfolding box_sum

@@ -5,4 +5,4 @@ use borrow.Author.Rules.{rules}
 use Rattle.table.proofs.sum.lines_of.Goals as goal
 
 pub returns : goal.returns
-returns c = (c.cell_at.ensures, rw (← add-one c.args.rows.south.0) c.cell_at-bottom.ensures)
+returns c = (c.cell_at-top.ensures, rw (← add-one c.args.rows.south.0) c.cell_at-bottom.ensures)
