@@ -1,5 +1,6 @@
 // The builder of a summed-area table: a start, a row call for each source row, a finish (table.rs).
 #![tactic(auto)]
+
 mod build;
 mod checks;
 mod hand_on;

@@ -1,5 +1,6 @@
 // The people in a circle: one rectangle a row, added north to south (circle.rs, and `place` of kernel.rs).
 #![tactic(auto)]
+
 ghost use Rattle.std.specs.Prelude.{◌≡◌, ◌<◌, length, pos, neg_ℤ};
 ghost use Rattle.grid.specs.Lookup.{col_along};
 ghost use Rattle.layout.specs.Place.{corner, right_table};

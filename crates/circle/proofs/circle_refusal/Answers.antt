@@ -1,7 +1,6 @@
 -- `circle::circle_refusal` meets its contract.
 -- Assumes nothing.
 use Rattle.circle.specs.Circle.{circle_refusal}
-use borrow.Author.Rules.{rules}
 use Rattle.circle.proofs.circle_refusal.Goals as goal
 
 pub returns : goal.returns

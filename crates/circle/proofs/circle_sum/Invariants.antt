@@ -1,15 +1,11 @@
 -- `circle::circle_sum` meets its contract. The loop's invariant: the people so far, and then those of the rows left, are those of all rows.
 -- Assumes nothing.
-use mathlib.Core.Path.{◌≡◌, ◌∙◌}
+use mathlib.Core.Path.{◌≡◌}
 use Prim.Native.Nat.{◌-◌, ◌+◌}
-use native.Mathlib.Nat.{add-zero}
-use native.Mathlib.Omega.{arith}
 use lib.ListN.{take, drop}
 use Rattle.float.specs.Float.{f64zero}
 use Rattle.layout.specs.Place.{corner}
-use Rattle.circle.specs.Circle.{circle_from, circle_sum}
-use Rattle.circle.proofs.Steps.{sum_turn, sum_end}
-use borrow.Author.Rules.{rules}
+use Rattle.circle.specs.Circle.{circle_from}
 use Rattle.circle.proofs.circle_sum.Given as goal
 
 abbrev pub invariant-loop-i : goal.invariant-loop-i

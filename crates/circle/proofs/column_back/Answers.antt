@@ -1,7 +1,6 @@
 -- `circle::column_back` meets its contract.
 -- Assumes nothing.
 use Rattle.circle.proofs.Placed.{west_before, west_round}
-use borrow.Author.Rules.{rules}
 use Rattle.circle.proofs.column_back.Goals as goal
 
 pub returns-then-h-centre : goal.returns-then-h-centre

@@ -1,7 +1,6 @@
 -- `circle::column_on` meets its contract.
 -- Assumes nothing.
 use Rattle.circle.proofs.Placed.{east_after, east_round}
-use borrow.Author.Rules.{rules}
 use Rattle.circle.proofs.column_on.Goals as goal
 
 pub returns-then-centre-rest : goal.returns-then-centre-rest

@@ -4,7 +4,6 @@ use mathlib.Core.Path.{sym, ◌∙◌}
 use Rattle.refusal.proofs.Chains.{refused_by}
 use Rattle.circle.specs.Circle.{circle_population}
 use Rattle.circle.proofs.Steps.{circle_ready}
-use borrow.Author.Rules.{rules}
 use Rattle.circle.proofs.population.Goals as goal
 
 pub returns-then-n-ne-PASSED : goal.returns-then-n-ne-PASSED

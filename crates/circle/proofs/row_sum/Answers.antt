@@ -3,7 +3,6 @@
 use mathlib.Core.Path.{refl}
 use Rattle.circle.proofs.Placed.{full_turn, through, span_on}
 use Rattle.circle.proofs.Steps.{row_people}
-use borrow.Author.Rules.{rules}
 use Rattle.circle.proofs.row_sum.Goals as goal
 
 pub returns-then-h-closing : goal.returns-then-h-closing

@@ -2,7 +2,6 @@
 -- Assumes nothing.
 use Rattle.builder.specs.Build.{buffers, built_table}
 use Rattle.builder.proofs.Calls.{finish_refused, total_inside, finished}
-use borrow.Author.Rules.{rules}
 use Rattle.builder.proofs.Builder.finish.Goals as goal
 
 pub returns-then-n-ne-PASSED : goal.returns-then-n-ne-PASSED

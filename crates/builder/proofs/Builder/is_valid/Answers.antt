@@ -3,12 +3,10 @@
 use mathlib.Core.Path.{sym, ◌∙◌}
 use Prim.Native.Nat.{◌*◌}
 use native.Mathlib.Omega.{arith}
-use borrow.Author.Tests.{not-true, not-false}
 use Rattle.raster.proofs.Tallies.{total_is}
 use Rattle.decimation.proofs.Factors.{framed}
 use Rattle.builder.specs.Build.{valid_builder}
 use Rattle.builder.proofs.Builders.{valid_so_far, rows_over, few_cells}
-use borrow.Author.Rules.{rules}
 use Rattle.builder.proofs.Builder.is_valid.Goals as goal
 
 pub returns-then-not-is_valid : goal.returns-then-not-is_valid

@@ -1,10 +1,8 @@
 -- `builder::Builder::row_refusal` meets its contract.
 -- Assumes nothing.
 use mathlib.Core.Path.{sym, ◌∙◌}
-use borrow.Author.Tests.{not-false}
 use Rattle.builder.specs.Build.{row_refusal}
 use Rattle.builder.proofs.Builders.{standing}
-use borrow.Author.Rules.{rules}
 use Rattle.builder.proofs.Builder.row_refusal.Goals as goal
 
 pub returns-then-not-is_valid : goal.returns-then-not-is_valid

@@ -1,12 +1,11 @@
 -- `builder::build::clear` meets its contract.
 -- Assumes nothing.
-use mathlib.Core.Path.{◌≡◌, refl}
-use Prim.Native.Nat.{◌≤◌, ◌-◌}
+use mathlib.Core.Path.{refl}
 use native.Mathlib.Omega.{arith}
 use lib.ListN.{length, replicate, length-set, length-replicate, get_or-replicate}
 use lib.Ieee.{nan}
 use Rattle.float.specs.Float.{f64zero}
-use Rattle.layout.proofs.Entries.{copied, copy_turn, copy_end}
+use Rattle.layout.proofs.Entries.{copy_turn, copy_end}
 use borrow.Author.Rules.{rules}
 use Rattle.builder.proofs.build.clear.Goals as goal
 

@@ -1,13 +1,10 @@
 -- `builder::build::clear` meets its contract.
 -- Assumes nothing.
-use mathlib.Core.Path.{◌≡◌, refl}
+use mathlib.Core.Path.{◌≡◌}
 use Prim.Native.Nat.{◌≤◌, ◌-◌}
-use native.Mathlib.Omega.{arith}
-use lib.ListN.{length, replicate, length-set, length-replicate, get_or-replicate}
-use lib.Ieee.{nan}
+use lib.ListN.{length, replicate}
 use Rattle.float.specs.Float.{f64zero}
-use Rattle.layout.proofs.Entries.{copied, copy_turn, copy_end}
-use borrow.Author.Rules.{rules}
+use Rattle.layout.proofs.Entries.{copied}
 use Rattle.builder.proofs.build.clear.Given as goal
 
 abbrev pub invariant-loop-i : goal.invariant-loop-i

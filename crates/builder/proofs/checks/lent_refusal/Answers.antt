@@ -4,7 +4,6 @@ use native.Mathlib.Numerals.{add-one}
 use Rattle.layout.proofs.Places.{length_held}
 use Rattle.decimation.proofs.Factors.{framed}
 use Rattle.builder.specs.Build.{lent_refusal}
-use borrow.Author.Rules.{rules}
 use Rattle.builder.proofs.checks.lent_refusal.Goals as goal
 
 pub returns : goal.returns

@@ -1,12 +1,9 @@
 -- `builder::hand_on::emit` meets its contract.
 -- Assumes nothing.
-use mathlib.Core.Path.{◌≡◌, refl, ◌∙◌}
-use Prim.Native.Nat.{◌+◌, ◌*◌, ◌-◌, ◌/◌, ◌%◌, ◌≤◌}
-use native.Mathlib.Omega.{arith}
+use mathlib.Core.Path.{◌≡◌}
+use Prim.Native.Nat.{◌-◌, ◌%◌, ◌≤◌}
 use lib.ListN.{length}
 use Rattle.builder.specs.private.Runs.{laid_runs}
-use Rattle.builder.proofs.Laid.{run_fits, run_turn, run_end}
-use borrow.Author.Rules.{rules}
 use Rattle.builder.proofs.hand_on.emit.Given as goal
 
 abbrev pub invariant-loop-c : goal.invariant-loop-c

@@ -1,36 +1,32 @@
 -- `builder::hand_on::rest` meets its contract.
 -- Assumes nothing.
 use mathlib.Core.Path.{◌≡◌, refl}
-use Prim.Native.Nat.{◌+◌, ◌*◌, ◌-◌, ◌/◌, ◌%◌, ◌≤◌, ◌<◌}
 use native.Mathlib.Nat.{sub_self}
 use native.Mathlib.Omega.{arith}
 use lib.ListN.{length, length-set}
 use Rattle.layout.specs.Place.{run_at}
-use Rattle.builder.specs.private.Runs.{laid_runs}
 use Rattle.builder.proofs.Laid.{rest_turn}
-use borrow.Author.Rules.{rules, scaled_Fits}
+use borrow.Author.Rules.{scaled_Fits}
 use Rattle.builder.proofs.hand_on.rest.Goals as goal
-
--- the place is in the part that is lent
-inside : (c : tie.In-loop invariant-loop decreases-loop)
-    → let l = c.loop-c in l.c / 8 * 64 + l.c % 8 < length c.args.dst.now
-unfolding run_at
-inside c = c.requires.1 c.loop-c.c (omega arith)
 
 pub loop-c-init : goal.loop-c-init
 loop-c-init c = (refl, c.requires.0, omega arith, rw (sub_self c.args.from))
 
 pub overflow_mul-dst : goal.overflow_mul-dst
-overflow_mul-dst c = omega (arith, inside c)
+unfolding run_at
+overflow_mul-dst c = omega (arith, c.requires.1 c.loop-c.c (omega arith))
 
 pub overflow_add-dst : goal.overflow_add-dst
-overflow_add-dst c = omega (arith, inside c)
+unfolding run_at
+overflow_add-dst c = omega (arith, c.requires.1 c.loop-c.c (omega arith))
 
 pub offset_bounds-dst-c : goal.offset_bounds-dst-c
-offset_bounds-dst-c c = scaled_Fits _ _ 8 (inside c) c.well_formed.0.1
+unfolding run_at
+offset_bounds-dst-c c = scaled_Fits _ _ 8 (c.requires.1 c.loop-c.c (omega arith)) c.well_formed.0.1
 
 pub bounds-dst-c : goal.bounds-dst-c
-bounds-dst-c c = rw c.loop-c.invariant.0 (inside c)
+unfolding run_at
+bounds-dst-c c = rw c.loop-c.invariant.0 (c.requires.1 c.loop-c.c (omega arith))
 
 pub loop-c-preserved : goal.loop-c-preserved
 loop-c-preserved c =

@@ -1,14 +1,9 @@
 -- `builder::hand_on::rest` meets its contract.
 -- Assumes nothing.
-use mathlib.Core.Path.{◌≡◌, refl}
-use Prim.Native.Nat.{◌+◌, ◌*◌, ◌-◌, ◌/◌, ◌%◌, ◌≤◌, ◌<◌}
-use native.Mathlib.Nat.{sub_self}
-use native.Mathlib.Omega.{arith}
-use lib.ListN.{length, length-set}
-use Rattle.layout.specs.Place.{run_at}
+use mathlib.Core.Path.{◌≡◌}
+use Prim.Native.Nat.{◌-◌, ◌≤◌}
+use lib.ListN.{length}
 use Rattle.builder.specs.private.Runs.{laid_runs}
-use Rattle.builder.proofs.Laid.{rest_turn}
-use borrow.Author.Rules.{rules, scaled_Fits}
 use Rattle.builder.proofs.hand_on.rest.Given as goal
 
 abbrev pub invariant-loop-c : goal.invariant-loop-c

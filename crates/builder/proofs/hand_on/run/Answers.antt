@@ -1,11 +1,9 @@
 -- `builder::hand_on::run` meets its contract.
 -- Assumes nothing.
 use mathlib.Core.Path.{◌≡◌, refl}
-use Prim.Native.Nat.{◌-◌, ◌≤◌}
 use native.Mathlib.Numerals.{add-one}
 use native.Mathlib.Omega.{arith}
-use lib.ListN.{length, length-set}
-use Rattle.builder.specs.private.Runs.{stored}
+use lib.ListN.{length-set}
 use borrow.Author.Rules.{rules}
 use Rattle.builder.proofs.hand_on.run.Goals as goal
 

@@ -1,12 +1,9 @@
 -- `builder::hand_on::run` meets its contract.
 -- Assumes nothing.
-use mathlib.Core.Path.{◌≡◌, refl}
+use mathlib.Core.Path.{◌≡◌}
 use Prim.Native.Nat.{◌-◌, ◌≤◌}
-use native.Mathlib.Numerals.{add-one}
-use native.Mathlib.Omega.{arith}
-use lib.ListN.{length, length-set}
+use lib.ListN.{length}
 use Rattle.builder.specs.private.Runs.{stored}
-use borrow.Author.Rules.{rules}
 use Rattle.builder.proofs.hand_on.run.Given as goal
 
 abbrev pub invariant-loop-i : goal.invariant-loop-i
