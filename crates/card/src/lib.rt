@@ -1,5 +1,6 @@
 // The card (document 01): its header with its checks, and its words.
 #![tactic(auto)]
+
 mod read;
 mod words;
 

@@ -1,7 +1,6 @@
 -- `card::read::grid_at` meets its contract.
 -- Assumes nothing.
 use Rattle.card.specs.Card.{grid_at}
-use borrow.Author.Rules.{rules}
 use Rattle.card.proofs.read.grid_at.Goals as goal
 
 pub returns : goal.returns

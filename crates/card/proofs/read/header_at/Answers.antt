@@ -1,7 +1,6 @@
 -- `card::read::header_at` meets its contract.
 -- Assumes nothing.
 use Rattle.card.specs.Card.{header_at}
-use borrow.Author.Rules.{rules}
 use Rattle.card.proofs.read.header_at.Goals as goal
 
 pub returns : goal.returns

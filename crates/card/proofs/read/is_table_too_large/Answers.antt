@@ -3,7 +3,6 @@
 use native.Mathlib.Omega.{arith}
 use Rattle.layout.specs.Place.{payload_length}
 use Rattle.layout.proofs.Places.{over_held}
-use borrow.Author.Rules.{rules}
 use Rattle.card.proofs.read.is_table_too_large.Goals as goal
 
 pub returns : goal.returns

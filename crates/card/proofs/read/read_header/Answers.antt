@@ -2,7 +2,6 @@
 -- Assumes nothing.
 use borrow.Author.Tests.{lt-ltb, le-ltb, ne_eqb, eq-eqb}
 use Rattle.card.specs.Card.{read_header}
-use borrow.Author.Rules.{rules}
 use Rattle.card.proofs.read.read_header.Goals as goal
 
 pub returns-then-card-gt-MOST_BYTES : goal.returns-then-card-gt-MOST_BYTES

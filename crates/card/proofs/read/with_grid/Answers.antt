@@ -5,19 +5,19 @@ use Rattle.refusal.specs.Refusal.{answered}
 use Rattle.decimation.specs.Decimation.{decimation_new}
 use Rattle.card.specs.Words.{u32_at}
 use Rattle.card.proofs.Headers.{few_cells, decimation_read}
-use borrow.Author.Rules.{rules}
 use Rattle.card.proofs.read.with_grid.Goals as goal
 
--- what the decimation call gave
-made : (c : tie.After-made)
-    → let s = c.args in decimation_new s.g (u32_at s.card.now 44) ≡ answered c.made-1.given.0.0
-made c = sym (rw (c.u32_at.ensures, c.made-1.given.1) at c.new-made.ensures)
-
 pub with_header-requires : goal.with_header-requires
-with_header-requires c = few_cells _ _ _ _ (made c) c.header_at.ensures
+with_header-requires c =
+    let made : decimation_new c.args.g (u32_at c.args.card.now 44) ≡ answered c.in-Made.d
+    = sym (rw (c.u32_at.ensures, c.in-Made.is) at c.new-made.ensures) in
+    few_cells _ _ _ _ made c.header_at.ensures
 
 pub returns-in-Made : goal.returns-in-Made
-returns-in-Made c = decimation_read _ _ _ _ _ (made c) c.header_at.ensures c.with_header.ensures
+returns-in-Made c =
+    let made : decimation_new c.args.g (u32_at c.args.card.now 44) ≡ answered c.in-Made.d
+    = sym (rw (c.u32_at.ensures, c.in-Made.is) at c.new-made.ensures) in
+    decimation_read _ _ _ _ _ made c.header_at.ensures c.with_header.ensures
 
 pub returns-in-Refused : goal.returns-in-Refused
 returns-in-Refused c =

@@ -1,7 +1,6 @@
 -- `card::words::circle_at` meets its contract.
 -- Assumes nothing.
 use Rattle.card.specs.Card.{circle_at}
-use borrow.Author.Rules.{rules}
 use Rattle.card.proofs.words.circle_at.Goals as goal
 
 pub returns : goal.returns

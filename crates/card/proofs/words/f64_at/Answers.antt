@@ -1,6 +1,5 @@
 -- `card::words::f64_at` meets its contract.
 -- Assumes nothing.
-use borrow.Author.Rules.{rules}
 use Rattle.card.proofs.words.f64_at.Goals as goal
 
 pub returns : goal.returns

@@ -2,7 +2,6 @@
 -- Assumes nothing.
 use mathlib.Core.Path.{sym}
 use Rattle.card.proofs.Bytes.{u64_words}
-use borrow.Author.Rules.{rules}
 use Rattle.card.proofs.words.u64_at.Goals as goal
 
 pub returns : goal.returns
