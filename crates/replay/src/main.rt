@@ -4,6 +4,7 @@
 // A call is a function from its words to those of its answer. Both stay text: a word is read where it is asked for, and
 // written where it is put.
 #![tactic(auto)]
+
 mod answers;
 mod build_calls;
 mod calls;

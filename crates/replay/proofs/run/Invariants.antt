@@ -1,5 +1,4 @@
 -- `replay::run` meets its contract. The measure is the budget.
-use Rattle.std.proofs.Common.{rules}
 use Rattle.replay.proofs.run.Given as goal
 
 abbrev pub invariant-loop-budget : goal.invariant-loop-budget
