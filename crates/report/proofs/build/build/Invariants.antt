@@ -1,13 +1,10 @@
 -- `report::build::build` meets its contract.
 -- Assumes nothing.
-use mathlib.Core.Path.{◌≡◌, refl, sym, ◌∙◌}
+use mathlib.Core.Path.{◌≡◌}
 use Prim.Native.Nat.{◌≤◌, ◌-◌}
-use native.Mathlib.Omega.{arith}
 use lib.ListN.{length}
 use Rattle.builder.specs.Build.{buffers}
-use Rattle.report.proofs.Sizes.{front_inside, front_length, zeros_length, Sizes, sizes, emptied}
-use Rattle.report.proofs.Building.{BuiltRows, never_refused, started, row_taken, finished}
-use borrow.Author.Rules.{rules}
+use Rattle.report.proofs.Building.{BuiltRows}
 use Rattle.report.proofs.build.build.Given as goal
 
 abbrev pub invariant-loop-built : goal.invariant-loop-built

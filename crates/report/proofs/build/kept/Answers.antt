@@ -1,6 +1,5 @@
 -- `report::build::kept` meets its contract.
 -- Assumes nothing.
-use borrow.Author.Rules.{rules}
 use Rattle.refusal.proofs.Chains.{answered_same, never}
 use Rattle.report.proofs.build.kept.Goals as goal
 

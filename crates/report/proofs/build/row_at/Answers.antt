@@ -1,40 +1,32 @@
 -- `report::build::row_at` meets its contract.
 -- Assumes nothing.
 use mathlib.Core.Path.{◌≡◌, refl, ◌∙◌}
-use mathlib.Core.List.{◌++◌, append-nil}
-use Prim.Native.Nat.{ℕ, suc, ◌+◌, ◌*◌, ◌-◌, ◌≤◌}
+use mathlib.Core.List.{append-nil}
+use Prim.Native.Nat.{ℕ, suc, ◌+◌, ◌*◌, ◌-◌}
 use native.Mathlib.Nat.{add-zero, sub-zero}
 use native.Mathlib.Numerals.{add-one}
 use native.Mathlib.Omega.{arith}
-use lib.ListN.{length, take, length-set}
+use lib.ListN.{length, length-set}
 use lib.Seq.{take_all}
-use Rattle.card.specs.Words.{words_at}
 use Rattle.card.specs.Card.{row_at}
 use Rattle.report.proofs.RowWords.{row_inside, words_turn}
 use borrow.Author.Rules.{rules}
 use Rattle.report.proofs.build.row_at.Goals as goal
 
--- where the row starts
-abbrev place : tie.Start invariant-loop decreases-loop → ℕ
-place s = s.args.h.rows_at + 4 * (s.args.i * length s.args.row.now)
-
-inside : (s : tie.Start invariant-loop decreases-loop) → place s + 4 * length s.args.row.now ≤ 65536
-inside s = row_inside _ _ s.requires.0 s.requires.1 s.requires.2
-
 pub overflow_mul-at : goal.overflow_mul-at
-overflow_mul-at c = omega (arith, inside c)
+overflow_mul-at c = omega (arith, row_inside _ _ c.requires.0 c.requires.1 c.requires.2)
 
 pub overflow_mul-at-2 : goal.overflow_mul-at-2
-overflow_mul-at-2 c = omega (arith, inside c)
+overflow_mul-at-2 c = omega (arith, row_inside _ _ c.requires.0 c.requires.1 c.requires.2)
 
 pub overflow_add-at : goal.overflow_add-at
-overflow_add-at c = omega (arith, inside c)
+overflow_add-at c = omega (arith, row_inside _ _ c.requires.0 c.requires.1 c.requires.2)
 
 pub loop-j-init : goal.loop-j-init
 loop-j-init c = (refl, search rules, rw (add-zero, sub-zero))
 
 pub overflow_add-at-in-loop-j : goal.overflow_add-at-in-loop-j
-overflow_add-at-in-loop-j c = omega (arith, inside c)
+overflow_add-at-in-loop-j c = omega (arith, row_inside _ _ c.requires.0 c.requires.1 c.requires.2)
 
 pub loop-j-preserved : goal.loop-j-preserved
 loop-j-preserved c =
@@ -43,7 +35,7 @@ loop-j-preserved c =
     let e : length c.args.row.now - j ≡ suc n = omega (arith, add-one j) in (
       simp length-set c.loop-j.invariant.0,
       omega arith,
-      words_turn c.args.card.now c.loop-j.row (place c) j n c.u32_at.result (omega arith) c.u32_at.ensures ∙ rw e at c.loop-j.invariant.2,
+      words_turn c.args.card.now c.loop-j.row (c.args.h.rows_at + 4 * (c.args.i * length c.args.row.now)) j n c.u32_at.result (omega arith) c.u32_at.ensures ∙ rw e at c.loop-j.invariant.2,
     )
 
 pub shape_of-row : goal.shape_of-row

@@ -1,17 +1,10 @@
 -- `report::build::row_at` meets its contract.
 -- Assumes nothing.
-use mathlib.Core.Path.{◌≡◌, refl, ◌∙◌}
-use mathlib.Core.List.{◌++◌, append-nil}
-use Prim.Native.Nat.{ℕ, suc, ◌+◌, ◌*◌, ◌-◌, ◌≤◌}
-use native.Mathlib.Nat.{add-zero, sub-zero}
-use native.Mathlib.Numerals.{add-one}
-use native.Mathlib.Omega.{arith}
-use lib.ListN.{length, take, length-set}
-use lib.Seq.{take_all}
+use mathlib.Core.Path.{◌≡◌}
+use mathlib.Core.List.{◌++◌}
+use Prim.Native.Nat.{◌+◌, ◌*◌, ◌-◌, ◌≤◌}
+use lib.ListN.{length, take}
 use Rattle.card.specs.Words.{words_at}
-use Rattle.card.specs.Card.{row_at}
-use Rattle.report.proofs.RowWords.{row_inside, words_turn}
-use borrow.Author.Rules.{rules}
 use Rattle.report.proofs.build.row_at.Given as goal
 
 abbrev pub invariant-loop-j : goal.invariant-loop-j

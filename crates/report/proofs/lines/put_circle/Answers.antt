@@ -1,6 +1,5 @@
 -- `report::lines::put_circle` meets its contract.
 -- Assumes nothing.
-use borrow.Author.Rules.{rules}
 use Rattle.report.proofs.lines.put_circle.Goals as goal
 
 pub returns-in-People : goal.returns-in-People

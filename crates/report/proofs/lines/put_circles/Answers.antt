@@ -2,12 +2,8 @@
 -- Assumes nothing.
 use mathlib.Core.Path.{◌≡◌, sym, ◌∙◌}
 use native.Mathlib.Omega.{arith}
-use Prim.Native.Nat.{◌≤◌, ◌-◌}
 use native.Mathlib.Numerals.{add-one}
-use lib.ListN.{length}
-use Rattle.digits.specs.Laid.{Laid}
 use Rattle.digits.proofs.Laying.{laid_none, laid_then, laid_length}
-use Rattle.report.specs.Printed.{circles_text}
 use Rattle.report.proofs.Sizes.{grid_valid, sizes}
 use borrow.Author.Rules.{rules}
 use Rattle.report.proofs.lines.put_circles.Goals as goal
@@ -35,7 +31,7 @@ loop-i-preserved c =
     let people-in = c.people_in-answer in
     let l = c.loop-i.invariant in
     let line = rw (people-in.ensures, c.circle_at-c.ensures) at c.put_circle-next.ensures in
-    (rw add-one (laid_then l.0 line), omega (arith, c.loop-i-test.true), l.2 ∙ sym people-in.auto.1.1.1.0)
+    (rw add-one (laid_then l.0 line), omega (arith, c.loop-i-test.true), l.2 ∙ sym people-in.auto.widths)
 
 pub shape_of-out : goal.shape_of-out
 shape_of-out c = laid_length c.loop-i.invariant.0

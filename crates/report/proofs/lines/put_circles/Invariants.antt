@@ -1,15 +1,10 @@
 -- `report::lines::put_circles` meets its contract.
 -- Assumes nothing.
-use mathlib.Core.Path.{◌≡◌, sym, ◌∙◌}
-use native.Mathlib.Omega.{arith}
+use mathlib.Core.Path.{◌≡◌}
 use Prim.Native.Nat.{◌≤◌, ◌-◌}
-use native.Mathlib.Numerals.{add-one}
 use lib.ListN.{length}
 use Rattle.digits.specs.Laid.{Laid}
-use Rattle.digits.proofs.Laying.{laid_none, laid_then, laid_length}
 use Rattle.report.specs.Printed.{circles_text}
-use Rattle.report.proofs.Sizes.{grid_valid, sizes}
-use borrow.Author.Rules.{rules}
 use Rattle.report.proofs.lines.put_circles.Given as goal
 
 abbrev pub invariant-loop-i : goal.invariant-loop-i

@@ -3,7 +3,6 @@
 use native.Mathlib.Omega.{arith}
 use Rattle.digits.proofs.Laying.{laid_whole}
 use Rattle.text.proofs.Lengths.{refused_length}
-use borrow.Author.Rules.{rules}
 use Rattle.report.proofs.lines.put_refused.Goals as goal
 
 pub returns : goal.returns

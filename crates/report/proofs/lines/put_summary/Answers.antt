@@ -1,7 +1,6 @@
 -- `report::lines::put_summary` meets its contract.
 -- Assumes nothing.
 use Rattle.digits.proofs.Laying.{laid_then}
-use borrow.Author.Rules.{rules}
 use Rattle.report.proofs.lines.put_summary.Goals as goal
 
 pub returns : goal.returns

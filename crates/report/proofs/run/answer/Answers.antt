@@ -3,11 +3,10 @@
 use mathlib.Core.Path.{sym}
 use Rattle.card.proofs.Headers.{accepted}
 use Rattle.report.specs.Printed.{printed}
-use borrow.Author.Rules.{rules}
 use Rattle.report.proofs.run.answer.Goals as goal
 
 pub report-requires : goal.report-requires
-report-requires c = accepted _ _ (sym (rw c.header-1.given.1 at c.read_header-header.ensures))
+report-requires c = accepted _ _ (sym (rw c.in-Accepted.is at c.read_header-header.ensures))
 
 pub returns-in-Accepted : goal.returns-in-Accepted
 unfolding printed
@@ -18,5 +17,5 @@ returns-in-Accepted c =
 pub returns-in-Refused : goal.returns-in-Refused
 unfolding printed
 returns-in-Refused c =
-    let Put-refused = c.Put-refused.ensures in
-    rw (← rw c.in-Refused.is at c.read_header-header.ensures) (Put-refused.size, Put-refused.left, Put-refused.bounded)
+    let put_refused = c.put_refused.ensures in
+    rw (← rw c.in-Refused.is at c.read_header-header.ensures) (put_refused.size, put_refused.left, put_refused.bounded)

@@ -4,7 +4,6 @@ use Rattle.refusal.proofs.Chains.{never}
 use Rattle.report.proofs.Sizes.{front_inside, front_length, zeros_length, sizes, emptied_table}
 use Rattle.report.proofs.Building.{table_filled}
 use Rattle.report.proofs.Reported.{report_printed}
-use borrow.Author.Rules.{rules}
 use Rattle.report.proofs.run.report.Goals as goal
 
 pub slice_bounds-table-end : goal.slice_bounds-table-end
