@@ -3,7 +3,6 @@ use Rattle.std.specs.Prelude.{ℕ, false, List, [], ◌∷◌, Float}
 use Rattle.std.specs.Float.{nan, inf, binary64}
 use Rattle.std.specs.Float.Ieee.{neg, of_bits}
 use Rattle.float.specs.Constants.{f64zero, f64p90, f64p91}
-use Rattle.grid.specs.declared.Grid.{Grid}
 use Rattle.grid.specs.Grid.{tolerance, grid_new}
 use Rattle.cases.specs.Cases.{Case, number_of}
 
