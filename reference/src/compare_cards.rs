@@ -139,10 +139,10 @@ pub fn linked(seed: u64, count: u64, kind: Kind) -> Result<(), String> {
     Ok(())
 }
 
-/// Through the program target/bin/count, each card from a file and through a pipe in two pieces.
+/// Through the program crates/count/out/count, each card from a file and through a pipe in two pieces.
 pub fn program(seed: u64, count: u64, kind: Kind) -> Result<(), String> {
     run(seed, count, kind, |card| {
-        let wrong = |error: std::io::Error| format!("target/bin/count: {error}");
+        let wrong = |error: std::io::Error| format!("crates/count/out/count: {error}");
         let file = printed(from_file(card).map_err(wrong)?)?;
         let pipe = printed(through_pipe(card).map_err(wrong)?)?;
         if file == pipe {
@@ -166,11 +166,11 @@ fn printed(output: Output) -> Result<Vec<u8>, String> {
 fn from_file(card: &[u8]) -> std::io::Result<Output> {
     let path = "target/reference/program.card";
     fs::write(path, card)?;
-    Command::new("target/bin/count").stdin(File::open(path)?).output()
+    Command::new("crates/count/out/count").stdin(File::open(path)?).output()
 }
 
 fn through_pipe(card: &[u8]) -> std::io::Result<Output> {
-    let mut command = Command::new("target/bin/count");
+    let mut command = Command::new("crates/count/out/count");
     let mut child = command.stdin(Stdio::piped()).stdout(Stdio::piped()).stderr(Stdio::piped()).spawn()?;
     if let Some(mut stdin) = child.stdin.take() {
         let (first, second) = card.split_at(card.len() / 3);

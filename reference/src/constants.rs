@@ -105,29 +105,44 @@ impl Number {
 /// A number that other code needs, and that stays.
 struct Explained {
     value: f64,
-    /// It is explained in the object of the crate `exports` alone, and in no program.
-    exports: bool,
+    /// None: it is explained in every file. Else where alone.
+    only: Option<Kind>,
     why: &'static str,
 }
 
+#[derive(Clone, Copy, PartialEq)]
+enum Kind {
+    Program,
+    /// The object of the crate `exports`.
+    Exports,
+    Other,
+}
+
 /// Only what stands in the files once the series' own are gone.
-const EXPLAINED: [Explained; 4] = [
-    Explained { value: 90.0, exports: false, why: "the latitude of a pole, crate grid" },
-    Explained { value: -90.0, exports: true, why: "the step of two rows from pole to pole, crate exports" },
-    Explained { value: 0.2, exports: true, why: "the step of 1,800 columns, crate exports" },
-    Explained { value: -0.2, exports: true, why: "the step of 900 rows, crate exports" },
+const EXPLAINED: [Explained; 5] = [
+    Explained { value: 90.0, only: None, why: "the latitude of a pole, crate grid" },
+    Explained { value: -90.0, only: Some(Kind::Program), why: "the latitude of the south pole, crate grid" },
+    Explained { value: -90.0, only: Some(Kind::Exports), why: "the step of two rows from pole to pole, crate exports" },
+    Explained { value: 0.2, only: Some(Kind::Exports), why: "the step of 1,800 columns, crate exports" },
+    Explained { value: -0.2, only: Some(Kind::Exports), why: "the step of 900 rows, crate exports" },
 ];
 
-fn explanation(number: &Number, exports: bool) -> Option<&'static str> {
+fn explanation(number: &Number, kind: Kind) -> Option<&'static str> {
     let same = |known: &&Explained| {
-        number.form == Form::Double && number.bits == known.value.to_bits() && (exports || !known.exports)
+        number.form == Form::Double && number.bits == known.value.to_bits() && known.only.map_or(true, |only| only == kind)
     };
     EXPLAINED.iter().find(same).map(|known| known.why)
 }
 
-/// Whether it is the object of the crate `exports`, by the names of its functions.
-fn of_exports(object: &Object) -> bool {
-    !object.linked && object.sections.iter().any(|section| section.name.starts_with(".text.exports_"))
+/// The object of the crate `exports` is known by the names of its functions.
+fn kind(object: &Object) -> Kind {
+    if object.linked {
+        Kind::Program
+    } else if object.sections.iter().any(|section| section.name.starts_with(".text.exports_")) {
+        Kind::Exports
+    } else {
+        Kind::Other
+    }
 }
 
 /// How far from the section's beginning, and the number there.
@@ -202,11 +217,11 @@ impl Report {
     }
 
     fn add_object(&mut self, file: &str, object: &Object) {
-        let exports = of_exports(object);
+        let kind = kind(object);
         let name = object.member.as_ref().map_or(file.to_string(), |member| format!("{file}({member})"));
         for section in &object.sections {
             for place in places(section) {
-                self.add(&name, section, &place, explanation(&place.1, exports));
+                self.add(&name, section, &place, explanation(&place.1, kind));
             }
         }
     }

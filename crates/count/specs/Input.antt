@@ -6,4 +6,4 @@ use Rattle.count.specs.declared.Input.TheVariants.{Bytes, Failed}
 -- how many bytes a read gave; none where it failed
 abbrev pub bytes_read : Input → ℕ
 bytes_read (Bytes n) = n
-bytes_read Failed = 0
+bytes_read (Failed e) = 0

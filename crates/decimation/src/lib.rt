@@ -1,5 +1,6 @@
 // A factor, and the coarse grid that it makes of a source grid (`Decimation` of table.rs).
 #![tactic(auto)]
+
 ghost use Rattle.std.specs.Prelude.{◌≡◌};
 ghost use Rattle.refusal.specs.Refusal.{outcome};
 ghost use Rattle.grid.specs.Grid.{grid_outcome};

@@ -41,6 +41,8 @@ module _ (s : ℕ) (S : s ≤ 1074) (n : ℕ) (small : n ≤ 2 ^ 53) where
       rw (v.0, mul-one (m * up e), mul-one (down e), one-mul (down e))
       (round_same binary64 false (m * up e % down e) (down e) (n % 2 ^ s) (2 ^ s) (down_pos e) (pow_pos s)
       (rest_same (m * up e) (down e) n (2 ^ s) (down_pos e) (pow_pos s) v.1))
+  rest_is lib.Ieee.nan v = elim v [ ]
+  rest_is (lib.Ieee.inf _) v = elim v [ ]
 
   -- one notion of whole: what is whole people by the ledger, the display takes for a count
   units_count : is_count (f64units s n) ≡ eqb (n % 2 ^ s) 0

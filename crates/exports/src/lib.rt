@@ -1,6 +1,7 @@
 // Some of the calls under C names, for a Rust program to link: to time them (reference/bench) and to compare cards and
 // roots (reference/cards, reference/roots).
 #![tactic(auto)]
+
 ghost use Rattle.std.specs.Prelude.{◌≡◌, ◌≤◌, length};
 ghost use Rattle.std.specs.Float.{binary64};
 ghost use Rattle.std.proofs.lemmas.List.Edits.{sets};

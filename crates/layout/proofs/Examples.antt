@@ -1,8 +1,7 @@
 -- Document 02, C-16, worked. Assumes nothing.
 use mathlib.Core.Path.{◌≡◌, refl}
 use mathlib.Core.List.{List, [], ◌∷◌, map}
-use Prim.Native.Nat.{ℕ}
-use lib.ListN.{length, get_or, replicate}
+use lib.ListN.{get_or, replicate}
 use lib.Ieee.{Float, nan, of_int}
 use Rattle.float.specs.Float.{f64zero, f64one, f64of}
 use Rattle.layout.specs.Entries.{entries}

@@ -1,5 +1,5 @@
 -- Document 02, C-16: the full map, from row layout to blocks and from blocks to row layout.
-use Rattle.std.specs.Prelude.{◌≡◌, Bool, false, not, cond, ◌&&◌, List, ℕ, suc, ◌*◌, ◌/◌, ◌%◌, ◌<◌, length, Float}
+use Rattle.std.specs.Prelude.{◌≡◌, false, not, cond, ◌&&◌, List, ℕ, suc, ◌*◌, ◌/◌, ◌%◌, ◌<◌, Float}
 use Rattle.refusal.specs.Refusal.{Outcome, answered, refused, first, passed, outcome, unless_refused, not_its_makers, wrong_table_length}
 use Rattle.float.specs.Float.{f64zero}
 use Rattle.grid.specs.declared.Grid.{Grid}

@@ -1,6 +1,7 @@
 // How a table's cells are laid out (document 02, C-16): in blocks of 8 by 8 cells, which the card controller fetches. Beside it
 // stands the row layout, row after row, with a full map between the two.
 #![tactic(auto)]
+
 mod map;
 mod place;
 mod start;

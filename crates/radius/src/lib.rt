@@ -1,5 +1,6 @@
 // A circle's radius in km (RadiusKm of geodesy.rs).
 #![tactic(auto)]
+
 ghost use Rattle.std.specs.Prelude.{◌≡◌};
 ghost use Rattle.float.specs.Float.{f64of};
 ghost use Rattle.radius.specs.Radius.{radius_outcome, radius_refusal, radius_new, valid_radius, widened as widenedOf, widened_by};

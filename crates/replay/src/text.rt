@@ -1,5 +1,8 @@
 // The text: words of 16 hexadecimal digits, each with one byte behind it that separates it from the next.
-use libc::{STDIN_FILENO, STDOUT_FILENO};
+ghost use Rattle.std.specs.Prelude.{◌≤◌, length};
+
+use std::io;
+use std::io::{Read, Write};
 
 // The bytes of a word with its separator.
 pub const UNIT: usize = 17;
@@ -10,12 +13,27 @@ pub const SIZE: usize = 557056;
 pub type Text = [u8; SIZE];
 
 // The next n words of the input, in the front of the text; false where they are not there or are too many.
-pub fn read(text: &mut [u8], n: usize) -> bool {
+pub fn read(input: &mut impl Read, text: &mut [u8], n: usize) -> bool {
     let size = n % 0x1_0000_0000 * UNIT;
     if size <= text.len() {
-        return io::read_full(STDIN_FILENO, &mut text[0..size]) == size;
+        return read_full(input, &mut text[0..size]) == size;
     }
     false
+}
+
+// Reads until `bytes` is full, the input ends or a read fails, and returns how many bytes it put at the start of `bytes`.
+fn read_full(input: &mut impl Read, bytes: &mut [u8]) -> usize
+    ensures { result ≤ length bytes.new }
+{
+    let mut done = 0;
+    while done < bytes.len() {
+        match input.read(&mut bytes[done..]) {
+            Ok(0) => break,
+            Ok(more) => done += more,
+            Err(_) => break,
+        }
+    }
+    done
 }
 
 // The word at the front of the text.
@@ -58,13 +76,14 @@ fn glyph(n: u64) -> u8 {
 }
 
 // Writes the words up to `end`, with a newline behind the last.
-pub fn write_line(text: &mut Text, end: usize) {
+pub fn write_line(to: &mut impl Write, text: &mut Text, end: usize) -> io::Result<()> {
     if end == 0 {
-        return;
+        return Ok(());
     }
     if end <= SIZE {
         text[end - 1] = b'\n';
         let line = &text[..];
-        io::write_all(STDOUT_FILENO, &line[0..end]);
+        return to.write_all(&line[0..end]);
     }
+    Ok(())
 }

@@ -1,5 +1,6 @@
 // Where a card's sections may stand: inside the card, and over neither its header nor each other.
 #![tactic(auto)]
+
 ghost use Rattle.std.specs.Prelude.{◌≡◌};
 ghost use Rattle.sections.specs.Sections.{inside, disjoint, sections_apart, section_refusal};
 

@@ -4,7 +4,6 @@ use mathlib.Core.Path.{sym, ◌∙◌}
 use Rattle.grid.specs.Grid.{grid_new}
 use Rattle.decimation.specs.Decimation.{coarsened, coarse_grid, factor_refusal}
 use Rattle.decimation.proofs.Factors.{on_factor}
-use borrow.Author.Rules.{rules}
 use Rattle.decimation.proofs.coarse_grid.Goals as goal
 
 pub returns-then-is_off_factor : goal.returns-then-is_off_factor

@@ -1,7 +1,6 @@
 -- `decimation::is_off_factor` meets its contract.
 -- Assumes nothing.
 use borrow.Author.Tests.{eq-eqb, ne_eqb}
-use borrow.Author.Rules.{rules}
 use Rattle.decimation.proofs.is_off_factor.Goals as goal
 
 pub returns-then-factor-eq0 : goal.returns-then-factor-eq0

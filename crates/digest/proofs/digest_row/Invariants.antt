@@ -1,8 +1,7 @@
 -- `digest::digest_row` meets its contract. The invariant: the digest of the rest, from here, is the digest of the whole.
 -- Assumes nothing.
-use Rattle.std.proofs.Common.{◌≡◌, ◌-◌, length, drop, refl, ◌∙◌, arith, drop_of_length-le, rules}
+use Rattle.std.proofs.Common.{◌≡◌, ◌-◌, length, drop}
 use Rattle.digest.specs.Digest.{digest_of}
-use Rattle.digest.proofs.Rows.{digest_turn}
 use Rattle.digest.proofs.digest_row.Given as goal
 
 abbrev pub invariant-loop-i : goal.invariant-loop-i

@@ -1,7 +1,6 @@
 -- `digest::mix` meets its contract.
 -- Assumes nothing.
 use Rattle.digest.specs.Digest.{mixed}
-use Rattle.std.proofs.Common.{rules}
 use Rattle.digest.proofs.mix.Goals as goal
 
 pub returns : goal.returns

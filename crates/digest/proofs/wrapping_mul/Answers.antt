@@ -1,6 +1,6 @@
 -- `digest::wrapping_mul` meets its contract.
 -- Assumes nothing.
-use Rattle.std.proofs.Common.{arith, rules}
+use Rattle.std.proofs.Common.{arith}
 use Rattle.digest.specs.Digest.{times_mod}
 use Rattle.digest.proofs.Product.{halves, half_fits}
 use Rattle.digest.proofs.wrapping_mul.Goals as goal

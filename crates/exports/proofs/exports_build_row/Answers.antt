@@ -1,6 +1,5 @@
 -- `exports::exports_build_row` meets its contract.
 -- Assumes nothing.
-use borrow.Author.Rules.{rules}
 use Rattle.exports.proofs.exports_build_row.Goals as goal
 
 pub returns : goal.returns

@@ -1,6 +1,5 @@
 -- `exports::exports_circle` meets its contract.
 -- Assumes nothing.
-use borrow.Author.Rules.{rules}
 use Rattle.exports.proofs.exports_circle.Goals as goal
 
 pub returns : goal.returns

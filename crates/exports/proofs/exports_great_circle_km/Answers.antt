@@ -1,6 +1,5 @@
 -- `exports::exports_great_circle_km` meets its contract.
 -- Assumes nothing.
-use borrow.Author.Rules.{rules}
 use Rattle.exports.proofs.exports_great_circle_km.Goals as goal
 
 pub returns : goal.returns

@@ -1,6 +1,5 @@
 -- `exports::exports_kernel` meets its contract.
 -- Assumes nothing.
-use borrow.Author.Rules.{rules}
 use Rattle.exports.proofs.exports_kernel.Goals as goal
 
 pub returns : goal.returns

@@ -1,6 +1,5 @@
 -- `exports::exports_rectangle` meets its contract.
 -- Assumes nothing.
-use borrow.Author.Rules.{rules}
 use Rattle.exports.proofs.exports_rectangle.Goals as goal
 
 pub returns : goal.returns

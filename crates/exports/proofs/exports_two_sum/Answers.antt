@@ -2,7 +2,6 @@
 -- Assumes nothing.
 use mathlib.Core.Path.{refl}
 use Rattle.exports.specs.Exports.{both_parts}
-use borrow.Author.Rules.{rules}
 use Rattle.exports.proofs.exports_two_sum.Goals as goal
 
 pub returns : goal.returns

@@ -1,6 +1,6 @@
 -- `float::from_bits` meets its contract.
 -- Assumes nothing.
-use Rattle.std.proofs.Common.{sym, rules}
+use Rattle.std.proofs.Common.{sym}
 use lib.Ieee.{binary64, of_bits, div}
 use Rattle.float.proofs.Patterns.{pattern_number, pattern_nan}
 use Rattle.float.proofs.from_bits.Goals as goal

@@ -1,7 +1,6 @@
 -- `float::index_from_offset` meets its contract.
 -- Assumes nothing.
 use Rattle.float.specs.Float.{index_below}
-use Rattle.std.proofs.Common.{rules}
 use Rattle.float.proofs.index_from_offset.Goals as goal
 
 pub returns-then-x-limit : goal.returns-then-x-limit

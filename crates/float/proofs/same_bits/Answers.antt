@@ -1,6 +1,5 @@
 -- `float::same_bits` meets its contract.
 -- Assumes nothing.
-use Rattle.std.proofs.Common.{rules}
 use Rattle.float.proofs.same_bits.Goals as goal
 
 pub returns : goal.returns

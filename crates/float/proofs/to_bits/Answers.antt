@@ -2,7 +2,6 @@
 -- Assumes nothing.
 use lib.Ieee.{to_bits}
 use Rattle.float.proofs.Patterns.{same_no_nan, differs_nan}
-use Rattle.std.proofs.Common.{rules}
 use Rattle.float.proofs.to_bits.Goals as goal
 
 pub returns-then-x : goal.returns-then-x

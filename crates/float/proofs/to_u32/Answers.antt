@@ -1,6 +1,6 @@
 -- `float::to_u32` meets its contract.
 -- Assumes nothing.
-use Rattle.std.proofs.Common.{T, sym, subst, rules}
+use Rattle.std.proofs.Common.{T, sym, subst}
 use lib.Ieee.{of_bits, neg}
 use Rattle.float.proofs.WholePart.{small, large, past_all, below_zero}
 use Rattle.float.proofs.to_u32.Goals as goal

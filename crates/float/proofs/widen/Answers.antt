@@ -1,6 +1,6 @@
 -- `float::widen` meets its contract.
 -- Assumes nothing.
-use Rattle.std.proofs.Common.{sym, rules}
+use Rattle.std.proofs.Common.{sym}
 use lib.Ieee.{binary32, of_bits, div}
 use Rattle.float.proofs.Patterns.{pattern_number, pattern_nan, widens}
 use Rattle.float.proofs.widen.Goals as goal

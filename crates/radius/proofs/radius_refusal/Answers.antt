@@ -1,6 +1,5 @@
 -- `radius::radius_refusal` meets its contract.
 -- Assumes nothing.
-use borrow.Author.Rules.{rules}
 use Rattle.radius.specs.Radius.{radius_refusal}
 use Rattle.radius.proofs.radius_refusal.Goals as goal
 

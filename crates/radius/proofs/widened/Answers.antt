@@ -1,6 +1,5 @@
 -- `radius::widened` meets its contract.
 -- Assumes nothing.
-use borrow.Author.Rules.{rules}
 use Rattle.radius.specs.Radius.{widened}
 use Rattle.radius.proofs.widened.Goals as goal
 

@@ -1,10 +1,7 @@
 -- `remainder::doubled` meets its contract.
 -- Assumes nothing.
-use mathlib.Core.Path.{◌≡◌, refl, ◌∙◌}
-use Prim.Native.Nat.{◌*◌, ◌%◌, ◌^◌, ◌-◌, ◌<◌}
-use native.Mathlib.Nat.{mod-lt}
-use native.Mathlib.Omega.{arith}
-use Rattle.remainder.proofs.Remainders.{doubled_turn, shifted}
+use mathlib.Core.Path.{◌≡◌}
+use Prim.Native.Nat.{◌*◌, ◌%◌, ◌^◌, ◌<◌}
 use Rattle.remainder.proofs.doubled.Given as goal
 
 abbrev pub invariant-loop-i : goal.invariant-loop-i

@@ -2,7 +2,6 @@
 -- Assumes nothing.
 use native.Mathlib.Omega.{arith}
 use Rattle.remainder.proofs.Remainders.{in_float_lem, product, neg_value}
-use borrow.Author.Rules.{rules}
 use Rattle.remainder.proofs.float_of.Goals as goal
 
 pub int_to_float-result : goal.int_to_float-result

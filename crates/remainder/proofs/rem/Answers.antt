@@ -4,7 +4,6 @@ use mathlib.Core.Path.{refl, sym, subst, ◌∙◌}
 use native.Mathlib.Omega.{arith}
 use lib.Dec.{T}
 use Rattle.remainder.proofs.Remainders.{zero_by_zero, both_numbers, no_number, within_m, both_finite}
-use borrow.Author.Rules.{rules}
 use Rattle.remainder.proofs.rem.Goals as goal
 
 pub returns-then-p-c : goal.returns-then-p-c

@@ -1,7 +1,6 @@
 -- `remainder::rem_euclid` meets its contract.
 -- Assumes nothing.
 use Rattle.remainder.specs.Remainder.{rem_euclid}
-use borrow.Author.Rules.{rules}
 use Rattle.remainder.proofs.rem_euclid.Goals as goal
 
 pub returns-then-r : goal.returns-then-r

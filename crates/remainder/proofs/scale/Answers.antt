@@ -1,7 +1,6 @@
 -- `remainder::scale` meets its contract.
 -- Assumes nothing.
 use Rattle.remainder.proofs.Remainders.{scale_low, scale_high}
-use borrow.Author.Rules.{rules}
 use Rattle.remainder.proofs.scale.Goals as goal
 
 pub returns-then-k-lt52 : goal.returns-then-k-lt52

@@ -1,7 +1,6 @@
 -- `remainder::units_of` meets its contract.
 -- Assumes nothing.
 use Rattle.remainder.proofs.Remainders.{units_low, units_high}
-use borrow.Author.Rules.{rules}
 use Rattle.remainder.proofs.units_of.Goals as goal
 
 pub returns-then-p-lt-HIDDEN : goal.returns-then-p-lt-HIDDEN

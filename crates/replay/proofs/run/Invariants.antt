@@ -1,9 +1,8 @@
 -- `replay::run` meets its contract. The measure is the budget.
-use Rattle.std.proofs.Common.{rules}
 use Rattle.replay.proofs.run.Given as goal
 
 abbrev pub invariant-loop-budget : goal.invariant-loop-budget
-invariant-loop-budget l = Unit {0}
+invariant-loop-budget g l = Unit {0}
 
 abbrev pub decreases-loop-budget : goal.decreases-loop-budget
-decreases-loop-budget l = l.budget
+decreases-loop-budget g l = l.budget

@@ -1,6 +1,5 @@
 -- `sections::are_apart` meets its contract.
 -- Assumes nothing.
-use borrow.Author.Rules.{rules}
 use Rattle.sections.proofs.are_apart.Goals as goal
 
 pub returns : goal.returns

@@ -1,6 +1,5 @@
 -- `sections::section_refusal` meets its contract.
 -- Assumes nothing.
-use borrow.Author.Rules.{rules}
 use Rattle.sections.proofs.section_refusal.Goals as goal
 
 pub returns : goal.returns

@@ -1,8 +1,6 @@
 -- `decimation::Decimation::is_valid` meets its contract.
 -- Assumes nothing.
 use mathlib.Core.Path.{sym, ◌∙◌}
-use borrow.Author.Rules.{rules}
-use borrow.Author.Tests.{not-true, not-false}
 use Rattle.refusal.proofs.Chains.{answered_passed, refused_fails}
 use Rattle.decimation.specs.Decimation.{coarse_grid, factor_refusal, valid_decimation}
 use Rattle.decimation.proofs.Decimation.is_valid.Goals as goal

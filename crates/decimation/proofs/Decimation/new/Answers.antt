@@ -1,10 +1,8 @@
 -- `decimation::Decimation::new` meets its contract.
 -- Assumes nothing.
 use mathlib.Core.Path.{sym, ◌∙◌}
-use borrow.Author.Tests.{not-false}
 use Rattle.decimation.specs.Decimation.{coarse_grid, factor_refusal, decimation_new}
 use Rattle.refusal.proofs.Chains.{answered_passed, refused_alike}
-use borrow.Author.Rules.{rules}
 use Rattle.decimation.proofs.Decimation.new.Goals as goal
 
 pub returns-then-not-is_valid : goal.returns-then-not-is_valid

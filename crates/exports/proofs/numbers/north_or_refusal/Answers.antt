@@ -1,7 +1,6 @@
 -- `exports::numbers::north_or_refusal` meets its contract.
 -- Assumes nothing.
 use mathlib.Core.Path.{refl}
-use borrow.Author.Rules.{rules}
 use Rattle.exports.proofs.numbers.north_or_refusal.Goals as goal
 
 pub returns-in-Refused : goal.returns-in-Refused

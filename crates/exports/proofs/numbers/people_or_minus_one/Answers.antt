@@ -1,7 +1,6 @@
 -- `exports::numbers::people_or_minus_one` meets its contract.
 -- Assumes nothing.
 use mathlib.Core.Path.{refl}
-use borrow.Author.Rules.{rules}
 use Rattle.exports.proofs.numbers.people_or_minus_one.Goals as goal
 
 pub returns-in-Refused : goal.returns-in-Refused

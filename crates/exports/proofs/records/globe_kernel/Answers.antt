@@ -2,7 +2,6 @@
 -- Assumes nothing.
 use mathlib.Core.Path.{refl}
 use Rattle.exports.specs.Exports.{globe_kernel}
-use borrow.Author.Rules.{rules}
 use Rattle.exports.proofs.records.globe_kernel.Goals as goal
 
 pub returns : goal.returns

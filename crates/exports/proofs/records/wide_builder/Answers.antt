@@ -2,7 +2,6 @@
 -- Assumes nothing.
 use mathlib.Core.Path.{refl}
 use Rattle.exports.specs.Exports.{wide_builder}
-use borrow.Author.Rules.{rules}
 use Rattle.exports.proofs.records.wide_builder.Goals as goal
 
 pub returns : goal.returns

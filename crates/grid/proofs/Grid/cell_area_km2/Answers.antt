@@ -2,7 +2,6 @@
 -- Assumes nothing.
 use Rattle.grid.specs.Lookup.{cell_area, cell_area_call}
 use Rattle.refusal.proofs.Chains.{refused_by}
-use borrow.Author.Rules.{rules}
 use Rattle.grid.proofs.Grid.cell_area_km2.Goals as goal
 
 pub returns-then-n-ne-PASSED : goal.returns-then-n-ne-PASSED

@@ -1,7 +1,6 @@
 -- `grid::Grid::cell_containing` meets its contract.
 -- Assumes nothing.
 use Rattle.grid.specs.Lookup.{cell_containing}
-use borrow.Author.Rules.{rules}
 use Rattle.grid.proofs.Grid.cell_containing.Goals as goal
 
 pub returns-then-not-is_valid : goal.returns-then-not-is_valid

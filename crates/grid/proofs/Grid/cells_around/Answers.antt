@@ -1,7 +1,6 @@
 -- `grid::Grid::cells_around` meets its contract.
 -- Assumes nothing.
 use Rattle.grid.specs.Lookup.{cells_around}
-use borrow.Author.Rules.{rules}
 use Rattle.grid.proofs.Grid.cells_around.Goals as goal
 
 pub returns-then-closes : goal.returns-then-closes

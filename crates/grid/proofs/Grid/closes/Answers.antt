@@ -1,7 +1,6 @@
 -- `grid::Grid::closes` meets its contract.
 -- Assumes nothing.
 use Rattle.grid.specs.Lookup.{closes}
-use borrow.Author.Rules.{rules}
 use Rattle.grid.proofs.Grid.closes.Goals as goal
 
 pub returns : goal.returns

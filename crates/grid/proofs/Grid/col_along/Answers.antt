@@ -4,7 +4,6 @@ use mir.Syntax.{w64}
 use mir.ValLaws.{to_z-of_z}
 use Rattle.grid.specs.Lookup.{col_along_call}
 use Rattle.refusal.proofs.Chains.{refused_by}
-use borrow.Author.Rules.{rules}
 use Rattle.grid.proofs.Grid.col_along.Goals as goal
 
 pub returns-then-n-ne-PASSED : goal.returns-then-n-ne-PASSED

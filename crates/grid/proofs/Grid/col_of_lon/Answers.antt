@@ -1,7 +1,6 @@
 -- `grid::Grid::col_of_lon` meets its contract.
 -- Assumes nothing.
 use Rattle.grid.specs.Lookup.{col_of_lon}
-use borrow.Author.Rules.{rules}
 use Rattle.grid.proofs.Grid.col_of_lon.Goals as goal
 
 pub returns : goal.returns

@@ -1,6 +1,5 @@
 -- `grid::Grid::grid_check` meets its contract.
 -- Assumes nothing.
-use borrow.Author.Rules.{rules}
 use Rattle.grid.proofs.Grid.grid_check.Goals as goal
 
 pub returns : goal.returns

@@ -1,7 +1,6 @@
 -- `grid::Grid::is_valid` meets its contract.
 -- Assumes nothing.
 use Rattle.grid.specs.Grid.{valid_grid}
-use borrow.Author.Rules.{rules}
 use Rattle.grid.proofs.Grid.is_valid.Goals as goal
 
 pub returns : goal.returns

@@ -2,7 +2,6 @@
 -- Assumes nothing.
 use mathlib.Core.Path.{refl}
 use Rattle.grid.specs.Lookup.{lat_at}
-use borrow.Author.Rules.{rules}
 use Rattle.grid.proofs.Grid.lat_at.Goals as goal
 
 pub returns : goal.returns

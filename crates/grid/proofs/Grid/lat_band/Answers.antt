@@ -2,7 +2,6 @@
 -- Assumes nothing.
 use mathlib.Core.Path.{refl}
 use Rattle.grid.specs.Lookup.{lat_band}
-use borrow.Author.Rules.{rules}
 use Rattle.grid.proofs.Grid.lat_band.Goals as goal
 
 pub returns : goal.returns

@@ -1,7 +1,6 @@
 -- `grid::Grid::lon_span` meets its contract.
 -- Assumes nothing.
 use Rattle.grid.specs.Lookup.{lon_span}
-use borrow.Author.Rules.{rules}
 use Rattle.grid.proofs.Grid.lon_span.Goals as goal
 
 pub returns : goal.returns

@@ -1,7 +1,6 @@
 -- `grid::Grid::refusal` meets its contract.
 -- Assumes nothing.
 use Rattle.grid.specs.Grid.{grid_refusal}
-use borrow.Author.Rules.{rules}
 use Rattle.grid.proofs.Grid.refusal.Goals as goal
 
 pub returns : goal.returns

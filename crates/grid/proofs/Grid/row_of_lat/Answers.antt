@@ -1,7 +1,6 @@
 -- `grid::Grid::row_of_lat` meets its contract.
 -- Assumes nothing.
 use Rattle.grid.specs.Lookup.{row_of_lat}
-use borrow.Author.Rules.{rules}
 use Rattle.grid.proofs.Grid.row_of_lat.Goals as goal
 
 pub returns : goal.returns

@@ -1,6 +1,5 @@
 -- `grid::Grid::same` meets its contract.
 -- Assumes nothing.
-use borrow.Author.Rules.{rules}
 use Rattle.grid.specs.Grid.{same_grid}
 use Rattle.grid.proofs.Grid.same.Goals as goal
 

@@ -1,6 +1,5 @@
 -- `grid::Grid::step_refusal` meets its contract.
 -- Assumes nothing.
-use borrow.Author.Rules.{rules}
 use Rattle.grid.proofs.Grid.step_refusal.Goals as goal
 
 pub returns : goal.returns

@@ -7,7 +7,6 @@ use native.Mathlib.Nat.{mod-lt, pos_of_ne-zero}
 use native.Mathlib.Omega.{arith}
 use borrow.Author.Tests.{ne_eqb}
 use Rattle.grid.specs.Lookup.{col_along}
-use borrow.Author.Rules.{rules}
 use Rattle.grid.proofs.steps.along.Goals as goal
 
 pub returns-then-width-eq0 : goal.returns-then-width-eq0

@@ -4,7 +4,6 @@ use lib.Signed.{mag}
 use native.Mathlib.Omega.{arith}
 use native.Mathlib.Nat.{mod-lt}
 use Rattle.grid.proofs.Offsets.{flip, flip_back, stay, mod_below, mod_above}
-use borrow.Author.Rules.{rules}
 use Rattle.grid.proofs.steps.offset_mod.Goals as goal
 
 pub overflow_sub-n : goal.overflow_sub-n

@@ -1,16 +1,12 @@
 -- `layout::map::fill_blocks` meets its contract.
 -- Assumes nothing.
-use mathlib.Core.Path.{◌≡◌, refl, ap, ◌∙◌}
-use Prim.Native.Nat.{suc, ◌*◌, ◌-◌, ◌<◌, ◌≤◌}
+use mathlib.Core.Path.{refl, ap, ◌∙◌}
+use Prim.Native.Nat.{suc}
 use native.Mathlib.Numerals.{add-one}
 use native.Mathlib.Omega.{arith}
-use lib.ListN.{length, length-set}
-use Rattle.layout.specs.Place.{blocks_over, cell_at}
-use Rattle.layout.specs.Map.{to_blocks}
-use Rattle.layout.proofs.Entries.{copied}
+use lib.ListN.{length-set}
 use Rattle.layout.proofs.Places.{first_place, first_inside, row_before}
 use Rattle.layout.proofs.Maps.{mapped_turn, mapped_end}
-use borrow.Author.Rules.{rules}
 use Rattle.layout.proofs.map.fill_blocks.Goals as goal
 
 pub loop-at-init : goal.loop-at-init

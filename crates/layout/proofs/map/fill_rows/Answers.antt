@@ -1,19 +1,16 @@
 -- `layout::map::fill_rows` meets its contract.
 -- Assumes nothing.
 use mathlib.Core.Path.{◌≡◌, refl, ap, ◌∙◌}
-use Prim.Native.Nat.{ℕ, suc, ◌-◌, ◌<◌, ◌≤◌}
+use Prim.Native.Nat.{ℕ, suc, ◌<◌, ◌≤◌}
 use native.Mathlib.Numerals.{add-one}
 use native.Mathlib.Omega.{arith}
 use lib.ListN.{length, length-set}
 use Rattle.std.specs.Prelude.{List, Float}
 use Rattle.layout.specs.Place.{cell_at, corner, payload_length}
-use Rattle.layout.specs.Rows.{row_cell_at}
-use Rattle.layout.specs.Map.{to_rows}
-use Rattle.layout.proofs.Entries.{copied}
 use Rattle.layout.proofs.Places.{cell_inside}
 use Rattle.layout.proofs.Rows.{first_row_place}
 use Rattle.layout.proofs.Maps.{row_on, row_turn, row_end}
-use borrow.Author.Rules.{rules, scaled_Fits}
+use borrow.Author.Rules.{scaled_Fits}
 use Rattle.layout.proofs.map.fill_rows.Goals as goal
 
 -- a cell of the table is within the blocks

@@ -1,18 +1,11 @@
 -- `layout::map::fill_rows` meets its contract.
 -- Assumes nothing.
-use mathlib.Core.Path.{◌≡◌, refl, ap, ◌∙◌}
-use Prim.Native.Nat.{suc, ◌-◌, ◌<◌, ◌≤◌}
-use native.Mathlib.Numerals.{add-one}
-use native.Mathlib.Omega.{arith}
-use lib.ListN.{length, length-set}
-use Rattle.layout.specs.Place.{cell_at, corner}
+use mathlib.Core.Path.{◌≡◌}
+use Prim.Native.Nat.{◌-◌, ◌≤◌}
+use lib.ListN.{length}
 use Rattle.layout.specs.Rows.{row_cell_at}
 use Rattle.layout.specs.Map.{to_rows}
 use Rattle.layout.proofs.Entries.{copied}
-use Rattle.layout.proofs.Places.{cell_inside}
-use Rattle.layout.proofs.Rows.{first_row_place}
-use Rattle.layout.proofs.Maps.{row_on, row_turn, row_end}
-use borrow.Author.Rules.{rules, scaled_Fits}
 use Rattle.layout.proofs.map.fill_rows.Given as goal
 
 abbrev pub invariant-loop-at : goal.invariant-loop-at

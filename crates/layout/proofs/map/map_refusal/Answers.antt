@@ -3,14 +3,12 @@
 use mathlib.Core.Path.{sym, ◌∙◌}
 use Prim.Native.Nat.{◌<◌}
 use native.Mathlib.Omega.{arith}
-use borrow.Author.Tests.{not-false}
 use lib.ListN.{length}
 use Rattle.grid.proofs.Valid.{grid_sized}
 use Rattle.layout.specs.Rows.{right_rows}
 use Rattle.layout.specs.Map.{map_refusal}
 use Rattle.layout.proofs.Places.{is_right}
 use Rattle.layout.proofs.Rows.{row_length_is, row_length_fits}
-use borrow.Author.Rules.{rules}
 use Rattle.layout.proofs.map.map_refusal.Goals as goal
 
 pub returns-then-not-is_valid : goal.returns-then-not-is_valid

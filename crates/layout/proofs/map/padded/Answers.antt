@@ -6,7 +6,7 @@ use lib.ListN.{length}
 use Rattle.layout.specs.Rows.{row_corner}
 use Rattle.layout.proofs.Rows.{row_place_is, row_cell_inside}
 use Rattle.layout.proofs.Maps.{cell_is}
-use borrow.Author.Rules.{rules, scaled_Fits}
+use borrow.Author.Rules.{scaled_Fits}
 use Rattle.layout.proofs.map.padded.Goals as goal
 
 -- the place is within the rows

@@ -4,7 +4,6 @@ use mathlib.Core.Path.{refl, sym, ◌∙◌}
 use Rattle.refusal.proofs.Chains.{refused_by, left_alone}
 use Rattle.layout.specs.Map.{to_blocks_call}
 use Rattle.layout.proofs.Maps.{map_sized}
-use borrow.Author.Rules.{rules}
 use Rattle.layout.proofs.map.to_blocks.Goals as goal
 
 pub returns-then-n-ne-PASSED : goal.returns-then-n-ne-PASSED

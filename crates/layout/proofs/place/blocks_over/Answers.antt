@@ -2,7 +2,6 @@
 -- Assumes nothing.
 use native.Mathlib.Omega.{arith}
 use Rattle.layout.specs.Place.{blocks_over}
-use borrow.Author.Rules.{rules}
 use Rattle.layout.proofs.place.blocks_over.Goals as goal
 
 pub returns : goal.returns

@@ -2,7 +2,6 @@
 -- Assumes nothing.
 use native.Mathlib.Omega.{arith}
 use Rattle.layout.proofs.Places.{place_fits}
-use borrow.Author.Rules.{rules}
 use Rattle.layout.proofs.place.cell_at.Goals as goal
 
 pub place-requires : goal.place-requires

@@ -2,7 +2,6 @@
 -- Assumes nothing.
 use native.Mathlib.Omega.{arith}
 use Rattle.layout.proofs.Places.{blocks_fit, length_most, length_fits}
-use borrow.Author.Rules.{rules}
 use Rattle.layout.proofs.place.payload_len.Goals as goal
 
 pub overflow_mul-blocks : goal.overflow_mul-blocks

@@ -5,7 +5,6 @@ use Prim.Native.Nat.{◌+◌, ◌*◌, ◌/◌, ◌%◌}
 use mathlib.Core.Path.{◌≡◌}
 use Rattle.layout.specs.Place.{cell_at}
 use Rattle.layout.proofs.Places.{place_is}
-use borrow.Author.Rules.{rules}
 use Rattle.layout.proofs.place.place.Goals as goal
 
 -- the place, whose parts are no more than it

@@ -2,7 +2,6 @@
 -- Assumes nothing.
 use mathlib.Core.Path.{refl}
 use Rattle.layout.specs.Place.{run_at}
-use borrow.Author.Rules.{rules}
 use Rattle.layout.proofs.place.run_at.Goals as goal
 
 pub returns : goal.returns

@@ -2,7 +2,6 @@
 -- Assumes nothing.
 use mathlib.Core.Path.{sym}
 use lib.Seq.{set_out}
-use borrow.Author.Rules.{rules}
 use Rattle.layout.proofs.start.clear.Goals as goal
 
 pub returns-else-at-table : goal.returns-else-at-table

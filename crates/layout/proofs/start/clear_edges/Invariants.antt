@@ -1,14 +1,10 @@
 -- `layout::start::clear_edges` meets its contract.
 -- Assumes nothing.
-use mathlib.Core.Path.{◌≡◌, refl, sym, ◌∙◌}
-use Prim.Native.Nat.{◌-◌, ◌<◌}
-use native.Mathlib.Numerals.{add-one}
-use native.Mathlib.Omega.{arith}
+use mathlib.Core.Path.{◌≡◌}
+use Prim.Native.Nat.{◌-◌}
 use lib.ListN.{length}
 use Rattle.layout.specs.Place.{cell_at}
-use Rattle.layout.proofs.Places.{first_place, few_blocks, row_before, row_behind}
-use Rattle.layout.proofs.Cleared.{rows_cleared, first_within, rows_start, rows_turn, rows_end}
-use borrow.Author.Rules.{rules}
+use Rattle.layout.proofs.Cleared.{rows_cleared}
 use Rattle.layout.proofs.start.clear_edges.Given as goal
 
 abbrev pub invariant-loop-start : goal.invariant-loop-start

@@ -1,14 +1,10 @@
 -- `layout::start::clear_from` meets its contract.
 -- Assumes nothing.
 use mathlib.Core.Path.{◌≡◌, refl, ◌∙◌}
-use Prim.Native.Nat.{suc, ◌*◌, ◌-◌, ◌≤◌}
+use Prim.Native.Nat.{suc, ◌-◌}
 use native.Mathlib.Omega.{arith}
-use lib.ListN.{length}
-use Rattle.layout.specs.Place.{blocks_over}
-use Rattle.layout.specs.private.Cleared.{cleared_from}
 use Rattle.layout.proofs.Places.{few_blocks, row_spans}
 use Rattle.layout.proofs.Cleared.{clear_start, clear_turn}
-use borrow.Author.Rules.{rules}
 use Rattle.layout.proofs.start.clear_from.Goals as goal
 
 pub overflow_mul-col : goal.overflow_mul-col

@@ -1,7 +1,6 @@
 -- `layout::start::first_cleared` meets its contract.
 -- Assumes nothing.
 use Rattle.layout.proofs.Cleared.{first_kept, first_cleared_lem}
-use borrow.Author.Rules.{rules}
 use Rattle.layout.proofs.start.first_cleared.Goals as goal
 
 pub returns-then-row-grid : goal.returns-then-row-grid

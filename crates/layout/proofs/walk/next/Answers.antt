@@ -1,7 +1,6 @@
 -- `layout::walk::next` meets its contract.
 -- Assumes nothing.
 use Rattle.layout.proofs.Places.{behind_in_run, behind_run, behind_block, behind_line}
-use borrow.Author.Rules.{rules}
 use Rattle.layout.proofs.walk.next.Goals as goal
 
 pub returns-then-col-lt7 : goal.returns-then-col-lt7

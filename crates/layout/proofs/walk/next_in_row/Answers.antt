@@ -2,7 +2,6 @@
 -- Assumes nothing.
 use native.Mathlib.Omega.{arith}
 use Rattle.layout.proofs.Rows.{behind_in_row, behind_row}
-use borrow.Author.Rules.{rules}
 use Rattle.layout.proofs.walk.next_in_row.Goals as goal
 
 pub returns-then-col-width : goal.returns-then-col-width

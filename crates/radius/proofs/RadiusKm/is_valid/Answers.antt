@@ -1,6 +1,5 @@
 -- `radius::RadiusKm::is_valid` meets its contract.
 -- Assumes nothing.
-use borrow.Author.Rules.{rules}
 use Rattle.radius.specs.Radius.{valid_radius}
 use Rattle.radius.proofs.RadiusKm.is_valid.Goals as goal
 

@@ -1,6 +1,5 @@
 -- `radius::RadiusKm::new` meets its contract.
 -- Assumes nothing.
-use borrow.Author.Rules.{rules}
 use Rattle.radius.specs.Radius.{radius_new}
 use Rattle.refusal.proofs.Chains.{refused_by}
 use Rattle.radius.proofs.RadiusKm.new.Goals as goal

@@ -1,6 +1,5 @@
 -- `radius::RadiusKm::widened_by` meets its contract.
 -- Assumes nothing.
-use borrow.Author.Rules.{rules}
 use Rattle.radius.specs.Radius.{widened_by}
 use Rattle.radius.proofs.RadiusKm.widened_by.Goals as goal
 

@@ -1,5 +1,5 @@
 -- `replay::answers::put_answer` meets its contract. The measure is what is left.
-use Rattle.std.proofs.Common.{◌-◌, length, rules}
+use Rattle.std.proofs.Common.{◌-◌, length}
 use Rattle.replay.proofs.answers.put_answer.Given as goal
 
 abbrev pub invariant-loop-i : goal.invariant-loop-i

@@ -1,5 +1,5 @@
 -- `replay::answers::put_row` meets its contract. The measure is what is left.
-use Rattle.std.proofs.Common.{◌-◌, rules}
+use Rattle.std.proofs.Common.{◌-◌}
 use Rattle.replay.proofs.answers.put_row.Given as goal
 
 abbrev pub invariant-loop-i : goal.invariant-loop-i

@@ -1,5 +1,4 @@
 -- `replay::table_calls::ask_all` meets its contract. The measure is what is left.
-use Rattle.std.proofs.Common.{rules}
 use Rattle.replay.proofs.table_calls.ask_all.Given as goal
 
 abbrev pub invariant-loop-left : goal.invariant-loop-left

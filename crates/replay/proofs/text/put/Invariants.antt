@@ -1,5 +1,5 @@
 -- `replay::text::put` meets its contract. The invariant: the place stays within the word, and the word in the text.
-use Rattle.std.proofs.Common.{◌+◌, ◌-◌, ◌≤◌, rules}
+use Rattle.std.proofs.Common.{◌+◌, ◌-◌, ◌≤◌}
 use Rattle.replay.proofs.text.put.Given as goal
 
 abbrev pub invariant-loop-i : goal.invariant-loop-i

@@ -1,5 +1,5 @@
 -- `replay::words::load_cells` meets its contract. The invariant: the space keeps its length, and the place stays in it.
-use Rattle.std.proofs.Common.{◌≡◌, ◌-◌, ◌≤◌, length, rules}
+use Rattle.std.proofs.Common.{◌≡◌, ◌-◌, ◌≤◌, length}
 use Rattle.replay.proofs.words.load_cells.Given as goal
 
 abbrev pub invariant-loop-i : goal.invariant-loop-i

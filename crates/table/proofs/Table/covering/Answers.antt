@@ -1,7 +1,6 @@
 -- `table::Table::covering` meets its contract.
 -- Assumes nothing.
 use Rattle.table.specs.Extent.{covering}
-use borrow.Author.Rules.{rules}
 use Rattle.table.proofs.Table.covering.Goals as goal
 
 pub returns-in-Refused : goal.returns-in-Refused

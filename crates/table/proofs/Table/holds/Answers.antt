@@ -1,7 +1,6 @@
 -- `table::Table::holds` meets its contract.
 -- Assumes nothing.
 use Rattle.table.specs.Rectangle.{rectangle_held}
-use borrow.Author.Rules.{rules}
 use Rattle.table.proofs.Table.holds.Goals as goal
 
 pub returns : goal.returns

@@ -4,7 +4,6 @@ use Prim.Native.Nat.{◌<◌}
 use lib.ListN.{length}
 use Rattle.layout.proofs.Places.{is_right}
 use native.Mathlib.Omega.{arith}
-use borrow.Author.Rules.{rules}
 use Rattle.table.proofs.Table.is_over.Goals as goal
 
 pub returns : goal.returns

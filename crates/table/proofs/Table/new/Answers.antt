@@ -1,7 +1,6 @@
 -- `table::Table::new` meets its contract.
 -- Assumes nothing.
 use Rattle.table.specs.Table.{table_new}
-use borrow.Author.Rules.{rules}
 use Rattle.table.proofs.Table.new.Goals as goal
 
 pub returns-then-not-is_valid : goal.returns-then-not-is_valid

@@ -4,7 +4,6 @@ use mathlib.Core.Path.{sym, ◌∙◌}
 use Rattle.refusal.proofs.Chains.{refused_by}
 use Rattle.table.specs.Rectangle.{rectangle_population}
 use Rattle.table.proofs.Checks.{on_grid}
-use borrow.Author.Rules.{rules}
 use Rattle.table.proofs.Table.population.Goals as goal
 
 pub returns-then-n-ne-PASSED : goal.returns-then-n-ne-PASSED

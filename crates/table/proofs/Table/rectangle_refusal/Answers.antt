@@ -1,7 +1,6 @@
 -- `table::Table::rectangle_refusal` meets its contract.
 -- Assumes nothing.
 use Rattle.table.specs.Rectangle.{rectangle_refusal}
-use borrow.Author.Rules.{rules}
 use Rattle.table.proofs.Table.rectangle_refusal.Goals as goal
 
 pub returns-then-not-is_valid-rows : goal.returns-then-not-is_valid-rows

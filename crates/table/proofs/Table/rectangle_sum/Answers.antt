@@ -5,7 +5,6 @@ use native.Mathlib.Omega.{arith}
 use Rattle.table.specs.Rectangle.{rectangle_sum}
 use Rattle.table.specs.declared.ColSpan.TheVariants.{FullTurn}
 use Rattle.table.proofs.Checks.{held_columns, lines_ordered, lines_inside, sum_by_lines}
-use borrow.Author.Rules.{rules}
 use Rattle.table.proofs.Table.rectangle_sum.Goals as goal
 
 pub lines_of-lines-requires : goal.lines_of-lines-requires

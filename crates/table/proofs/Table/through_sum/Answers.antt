@@ -2,10 +2,8 @@
 -- Assumes nothing.
 use mathlib.Core.Path.{refl, sym, ◌∙◌}
 use native.Mathlib.Omega.{arith}
-use borrow.Author.Tests.{not-true, not-false}
 use lib.Ieee.{div, of_bits}
 use Rattle.table.proofs.Checks.{held_facts, held_columns, held_sum_lem, not_held, lines_ordered, lines_inside, sum_by_lines}
-use borrow.Author.Rules.{rules}
 use Rattle.table.proofs.Table.through_sum.Goals as goal
 
 pub returns-then-not-holds : goal.returns-then-not-holds

@@ -3,9 +3,7 @@
 use native.Mathlib.Omega.{arith}
 use mathlib.Core.Path.{sym, ◌∙◌}
 use Rattle.grid.proofs.Valid.{grid_sized}
-use borrow.Author.Tests.{not-false}
 use Rattle.table.specs.Extent.{whole_extent}
-use borrow.Author.Rules.{rules}
 use Rattle.table.proofs.Table.whole.Goals as goal
 
 pub returns-then-not-is_valid : goal.returns-then-not-is_valid

@@ -1,6 +1,5 @@
 -- `table::extent::with_columns` meets its contract.
 -- Assumes nothing.
-use borrow.Author.Rules.{rules}
 use Rattle.table.proofs.extent.with_columns.Goals as goal
 
 pub returns-then-window : goal.returns-then-window

@@ -1,12 +1,10 @@
 -- `table::sum::box_sum` meets its contract.
 -- Assumes nothing.
 use mathlib.Core.Path.{ap}
-use Prim.Native.Nat.{ℕ, ◌+◌, ◌≤◌, ◌<◌}
+use Prim.Native.Nat.{ℕ, ◌+◌}
 use native.Mathlib.Omega.{arith}
-use lib.ListN.{length}
 use Rattle.layout.proofs.Places.{runs_in_order}
 use Rattle.table.specs.Rectangle.{box_sum}
-use borrow.Author.Rules.{rules}
 use Rattle.table.proofs.sum.box_sum.Goals as goal
 
 pub corner-se-requires : goal.corner-se-requires

@@ -2,7 +2,6 @@
 -- Assumes nothing.
 use native.Mathlib.Omega.{arith}
 use borrow.Author.Tests.{le-leb, lt-leb}
-use borrow.Author.Rules.{rules}
 use Rattle.table.proofs.sum.first_end.Goals as goal
 
 pub returns-then-east-west : goal.returns-then-east-west

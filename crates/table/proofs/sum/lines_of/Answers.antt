@@ -1,7 +1,6 @@
 -- `table::sum::lines_of` meets its contract.
 -- Assumes nothing.
 use native.Mathlib.Numerals.{add-one}
-use borrow.Author.Rules.{rules}
 use Rattle.table.proofs.sum.lines_of.Goals as goal
 
 pub returns : goal.returns

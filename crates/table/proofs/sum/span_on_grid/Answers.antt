@@ -1,6 +1,5 @@
 -- `table::sum::span_on_grid` meets its contract.
 -- Assumes nothing.
-use borrow.Author.Rules.{rules}
 use Rattle.table.proofs.sum.span_on_grid.Goals as goal
 
 pub returns-in-FullTurn : goal.returns-in-FullTurn

@@ -7,7 +7,6 @@ use borrow.Author.Tests.{le-leb, lt-leb}
 use Rattle.layout.proofs.Places.{runs_in_order}
 use Rattle.table.specs.Rectangle.{rectangle_sum}
 use Rattle.table.proofs.Checks.{first_piece}
-use borrow.Author.Rules.{rules}
 use Rattle.table.proofs.sum.through.Goals as goal
 
 pub first_end-requires : goal.first_end-requires

@@ -1,0 +1,2 @@
+-- The lemmas of `recount`.
+mod Name
