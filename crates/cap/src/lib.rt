@@ -6,7 +6,7 @@ ghost use Rattle.std.specs.Prelude.{◌≡◌, min, ◌≤◌};
 ghost use Rattle.cap.specs.Walks.{climbed, descended};
 ghost use Rattle.cap.specs.Terms.{lon_term, cap_terms, row_terms, within_angle, contained_by, reached_by};
 ghost use Rattle.cap.specs.Terms.{edge_ratio_by, edge_columns_by, estimated_by, half_width_by};
-ghost use Rattle.cap.specs.Cap.{closing as closingOf};
+ghost use Rattle.cap.specs.Cap.{closing as closing_of};
 
 // A centre's latitude in degrees, the radius as an angle, the grid's columns.
 #[derive(Clone, Copy)]
@@ -40,7 +40,7 @@ struct RowTerms {
 
 // The half-width that closes a row: a full turn at every width, even or odd.
 pub fn closing(width: u32) -> u32
-    ensures { result ≡ closingOf width }
+    ensures { result ≡ closing_of width }
 {
     width / 2
 }

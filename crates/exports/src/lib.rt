@@ -16,7 +16,7 @@ ghost use Rattle.kernel.specs.Kernel.{kernel_new};
 ghost use Rattle.circle.specs.Circle.{circle_population};
 ghost use Rattle.report.specs.Printed.{printed};
 ghost use Rattle.exports.specs.Exports.{or_minus_one, digest_or_refusal, north_or_refusal, both_parts, row_of, col_of, radius_of};
-ghost use Rattle.exports.specs.Exports.{wide_builder as wideBuilderOf, globe as globeGrid, globe_kernel, band_of, through_of};
+ghost use Rattle.exports.specs.Exports.{wide_builder as wide_builder_of, globe as globe_grid, globe_kernel, band_of, through_of};
 
 mod numbers;
 mod records;
@@ -85,11 +85,11 @@ pub extern "C" fn exports_build_row(
     coarse: &mut [f64],
     table: &mut [f64],
 ) -> u64
-    ensures { (result ≡ digest_or_refusal (row_call (wideBuilderOf digest) row.old
+    ensures { (result ≡ digest_or_refusal (row_call (wide_builder_of digest) row.old
         (buffers acc.old corr.old coarse.old table.old)).answer)
-        × (row.new ≡ row_left (wideBuilderOf digest) row.old
+        × (row.new ≡ row_left (wide_builder_of digest) row.old
         (buffers acc.old corr.old coarse.old table.old))
-        × (buffers acc.new corr.new coarse.new table.new ≡ (row_call (wideBuilderOf digest) row.old
+        × (buffers acc.new corr.new coarse.new table.new ≡ (row_call (wide_builder_of digest) row.old
         (buffers acc.old corr.old coarse.old table.old)).buffers) }
 {
     let b = wide_builder(digest);
@@ -99,8 +99,8 @@ pub extern "C" fn exports_build_row(
 // The kernel's north row, or 2^32 and the refusal's number.
 #[unsafe(no_mangle)]
 pub extern "C" fn exports_kernel(row: u32, km: f64, half_widths: &mut [u32]) -> u64
-    ensures { (result ≡ north_or_refusal (kernel_new globeGrid (row_of row) (radius_of km) half_widths.old).answer)
-        × (half_widths.new ≡ (kernel_new globeGrid (row_of row) (radius_of km) half_widths.old).widths) }
+    ensures { (result ≡ north_or_refusal (kernel_new globe_grid (row_of row) (radius_of km) half_widths.old).answer)
+        × (half_widths.new ≡ (kernel_new globe_grid (row_of row) (radius_of km) half_widths.old).widths) }
 {
     north_or_refusal(Kernel::new(globe(), Row(row), RadiusKm(km), half_widths))
 }
@@ -115,7 +115,7 @@ pub extern "C" fn exports_circle(
     column: u32,
 ) -> f64
     ensures { result ≡ or_minus_one
-        (circle_population globeGrid cells.now (globe_kernel north count) half_widths.now (col_of column)) }
+        (circle_population globe_grid cells.now (globe_kernel north count) half_widths.now (col_of column)) }
 {
     let table = Table { grid: globe() };
     let kernel = globe_kernel(north, count);
@@ -131,7 +131,7 @@ pub extern "C" fn exports_rectangle(
     west: u32,
     east: u32,
 ) -> f64
-    ensures { result ≡ or_minus_one (rectangle_population globeGrid cells.now (band_of north south) (through_of west east)) }
+    ensures { result ≡ or_minus_one (rectangle_population globe_grid cells.now (band_of north south) (through_of west east)) }
 {
     let table = Table { grid: globe() };
     let rows = RowBand {

@@ -1,6 +1,6 @@
 // The records that the calls work on.
 ghost use Rattle.std.specs.Prelude.{◌≡◌};
-ghost use Rattle.exports.specs.Exports.{wide_grid, wide_builder as wideBuilderOf, globe as globeGrid, globe_kernel};
+ghost use Rattle.exports.specs.Exports.{wide_grid, wide_builder as wide_builder_of, globe as globe_grid, globe_kernel};
 
 use builder::Builder;
 use decimation::Decimation;
@@ -25,7 +25,7 @@ fn wide_grid() -> Grid
 
 // A builder over it at factor 1 that has no row yet.
 pub(crate) fn wide_builder(digest: u64) -> Builder
-    ensures { result ≡ wideBuilderOf digest }
+    ensures { result ≡ wide_builder_of digest }
 {
     let decimation = Decimation {
         factor: 1,
@@ -43,7 +43,7 @@ pub(crate) fn wide_builder(digest: u64) -> Builder
 
 // Cells of a fifth of a degree.
 pub(crate) fn globe() -> Grid
-    ensures { result ≡ globeGrid }
+    ensures { result ≡ globe_grid }
 {
     Grid {
         width: 1800,

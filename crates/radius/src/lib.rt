@@ -3,7 +3,7 @@
 
 ghost use Rattle.std.specs.Prelude.{◌≡◌};
 ghost use Rattle.float.specs.Float.{f64of};
-ghost use Rattle.radius.specs.Radius.{radius_outcome, radius_refusal, radius_new, valid_radius, widened as widenedOf, widened_by};
+ghost use Rattle.radius.specs.Radius.{radius_outcome, radius_refusal, radius_new, valid_radius, widened as widened_of, widened_by};
 
 // `RadiusKm::new` checks it.
 #[derive(Clone, Copy)]
@@ -32,7 +32,7 @@ fn radius_refusal(km: f64) -> u32
 
 // Never narrower than km, and the widest radius where the sum is not finite: who widens wants a bound.
 fn widened(km: f64, more: f64) -> f64
-    ensures { result ≡ widenedOf km more }
+    ensures { result ≡ widened_of km more }
 {
     let w = km + more;
     if float::is_finite(w) {

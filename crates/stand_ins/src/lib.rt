@@ -5,7 +5,7 @@ ghost use Rattle.std.specs.Prelude.{◌≡◌, cond, ◌+◌, ◌-◌, ◌*◌, 
 ghost use Rattle.std.specs.Float.{binary64};
 ghost use Rattle.std.specs.Float.Ieee.{div, eq};
 ghost use Rattle.float.specs.Float.{f64zero, f64one, f64of};
-ghost use Rattle.stand_ins.specs.StandIns.{downward, sine_term, sin_of, cosine_term, cos_of, arctan_term, halved as halvedOf, arctan_of, atan2_of, acos_of};
+ghost use Rattle.stand_ins.specs.StandIns.{downward, sine_term, sin_of, cosine_term, cos_of, arctan_term, halved as halved_of, arctan_of, atan2_of, acos_of};
 ghost use Rattle.stand_ins.specs.StandIns.{to_radians, to_degrees};
 
 pub const PI: f64 = 3.141592653589793;
@@ -96,7 +96,7 @@ fn arctan_series(w: f64, top: u32) -> f64
 
 // The tangent of half the angle whose tangent is t.
 fn halved(t: f64) -> f64
-    ensures { result ≡ halvedOf t }
+    ensures { result ≡ halved_of t }
 {
     t / (1.0 + sqrt::sqrt(1.0 + t * t))
 }

@@ -1,7 +1,7 @@
 // The rows and columns of a table, and of a window.
 ghost use Rattle.std.specs.Prelude.{◌≡◌};
 ghost use Rattle.grid.specs.Lookup.{cell_outcome, cell_containing};
-ghost use Rattle.table.specs.Extent.{extent_outcome, whole_extent, point_at, covering_columns, covering as coveringOf};
+ghost use Rattle.table.specs.Extent.{extent_outcome, whole_extent, point_at, covering_columns, covering as covering_of};
 
 use crate::{ColSpan, ExtentAnswer, RowBand, Table, Window};
 use geodesy::LatLon;
@@ -51,7 +51,7 @@ impl Table {
     // The rows and columns of a window. A latitude alone has no cell, so each edge's is looked up at the grid's own
     // longitude, which every grid has.
     pub fn covering(self, window: Window) -> ExtentAnswer
-        ensures { extent_outcome result ≡ coveringOf self.grid window }
+        ensures { extent_outcome result ≡ covering_of self.grid window }
     {
         let grid = self.grid;
         let first = cell(grid, window.north, grid.lon);

@@ -1,6 +1,6 @@
 // The people of a rectangle: four cells of the table, or twice four where it crosses the seam.
 ghost use Rattle.std.specs.Prelude.{◌≡◌, cond, suc, ◌+◌, ◌<◌, ◌≤◌, leb, length};
-ghost use Rattle.layout.specs.Place.{cell_at, run_at, corner as cornerOf, right_table};
+ghost use Rattle.layout.specs.Place.{cell_at, run_at, corner as corner_of, right_table};
 ghost use Rattle.table.specs.private.Held.{Held};
 ghost use Rattle.table.specs.private.Lines.{line_cells};
 ghost use Rattle.table.specs.Rectangle.{box_sum, rectangle_sum, rectangle_held, held_sum, span_on_grid, rectangle_refusal};
@@ -103,7 +103,7 @@ impl Table {
 
     fn rectangle_sum(self, cells: &[f64], rows: RowBand, cols: ColSpan) -> f64
         requires { Held self.grid (length cells.now) rows cols }
-        ensures { result ≡ rectangle_sum self.grid.width (cornerOf self.grid.width cells.now) rows.north.0 rows.south.0 cols }
+        ensures { result ≡ rectangle_sum self.grid.width (corner_of self.grid.width cells.now) rows.north.0 rows.south.0 cols }
     {
         let width = self.grid.width;
         let lines = lines_of(width, rows);
