@@ -1,18 +1,17 @@
 -- A circle's radius in km: `RadiusKm` of geodesy.rs, document 01's refusals 18, 19 and 22.
-use Rattle.std.specs.Prelude.{ℕ, Bool, not, cond, eqb, Float}
+use Rattle.std.specs.Prelude.{ℕ, Bool, not, cond, eqb, Float, Result, Ok, Err}
 use Rattle.std.specs.Float.{binary64}
 use Rattle.std.specs.Float.Ieee.{add, lt}
 use Rattle.std.specs.Float.Ieee.Scale.{finite}
-use Rattle.refusal.specs.Refusal.{Outcome, answered, refused, first, passed, outcome, radius_not_finite, radius_below_zero, not_its_makers}
+use Rattle.refusal.specs.declared.Refusal.{Refusal}
+use Rattle.refusal.specs.Refusal.{Outcome, answered, refused, first, passed, outcome, number_of, radius_not_finite, radius_below_zero, not_its_makers}
 use Rattle.float.specs.Float.{f64zero, f64max, larger}
 use Rattle.radius.specs.declared.RadiusKm.{RadiusKm}
-use Rattle.radius.specs.declared.RadiusAnswer.{RadiusAnswer}
-use Rattle.radius.specs.declared.RadiusAnswer.TheVariants as radius
 
 -- what a radius call's answer is in document 01's terms: the km
-abbrev pub radius_outcome : RadiusAnswer → Outcome Float
-radius_outcome (radius.Made r) = answered r.0
-radius_outcome (radius.Refused n) = refused n
+abbrev pub radius_outcome : Result RadiusKm Refusal → Outcome Float
+radius_outcome (Ok r) = answered r.0
+radius_outcome (Err n) = refused (number_of n)
 
 -- the checks of `RadiusKm::new`
 unfoldable pub radius_refusal : Float → ℕ

@@ -2,32 +2,26 @@
 #![tactic(auto)]
 
 ghost use Rattle.std.specs.Prelude.{◌≡◌};
+ghost use Rattle.refusal.specs.Refusal.{number_in};
 ghost use Rattle.float.specs.Float.{f64of};
 ghost use Rattle.radius.specs.Radius.{radius_outcome, radius_refusal, radius_new, valid_radius, widened as widened_of, widened_by};
+
+use refusal::{Refusal, refuse_if};
 
 // `RadiusKm::new` checks it.
 #[derive(Clone, Copy)]
 pub struct RadiusKm(pub f64);
 
-// What a radius call gives: the radius, or the refusal's number.
-#[derive(Clone, Copy)]
-pub enum RadiusAnswer {
-    Made(RadiusKm),
-    Refused(u32),
-}
-
 // f64::MAX
 const LARGEST: f64 = 1.7976931348623157e308;
 
-// The number of the first check that a radius fails, or `PASSED`.
-fn radius_refusal(km: f64) -> u32
-    ensures { result ≡ radius_refusal km }
+// The checks of a radius.
+#[tactic(auto, unfolding(crate::specs::Radius::radius_refusal))]
+fn check(km: f64) -> Result<(), Refusal>
+    ensures { number_in result ≡ radius_refusal km }
 {
-    refusal::first(
-        !float::is_finite(km),
-        refusal::RADIUS_NOT_FINITE,
-        refusal::first(km < 0.0, refusal::RADIUS_BELOW_ZERO, refusal::PASSED),
-    )
+    refuse_if(!float::is_finite(km), Refusal::RadiusNotFinite)?;
+    refuse_if(km < 0.0, Refusal::RadiusBelowZero)
 }
 
 // Never narrower than km, and the widest radius where the sum is not finite: who widens wants a bound.
@@ -43,14 +37,12 @@ fn widened(km: f64, more: f64) -> f64
 
 impl RadiusKm {
     // A radius past half the circumference is one too: it names the whole sphere.
-    pub fn new(km: f64) -> RadiusAnswer
+    #[tactic(auto, using(refusal::proofs::Chains::refused_as), unfolding(crate::specs::Radius::radius_new))]
+    pub fn new(km: f64) -> Result<RadiusKm, Refusal>
         ensures { radius_outcome result ≡ radius_new km }
     {
-        let n = radius_refusal(km);
-        if n != refusal::PASSED {
-            return RadiusAnswer::Refused(n);
-        }
-        RadiusAnswer::Made(RadiusKm(km))
+        check(km)?;
+        Ok(RadiusKm(km))
     }
 
     // A whole number of km is always a length.
@@ -67,19 +59,19 @@ impl RadiusKm {
     }
 
     // Whether `new` could have made it.
+    #[tactic(auto, using(refusal::proofs::Chains::number_not_0), unfolding(crate::specs::Radius::valid_radius))]
     pub fn is_valid(self) -> bool
         ensures { result ≡ valid_radius self }
     {
-        radius_refusal(self.0) == refusal::PASSED
+        check(self.0).is_ok()
     }
 
     // This radius widened by so many km.
-    pub fn widened_by(self, km: f64) -> RadiusAnswer
+    #[tactic(auto, using(refusal::proofs::Chains::refused_as), unfolding(crate::specs::Radius::widened_by))]
+    pub fn widened_by(self, km: f64) -> Result<RadiusKm, Refusal>
         ensures { radius_outcome result ≡ widened_by self km }
     {
-        if !self.is_valid() {
-            return RadiusAnswer::Refused(refusal::NOT_ITS_MAKERS);
-        }
-        RadiusAnswer::Made(RadiusKm(widened(self.0, km)))
+        refuse_if(!self.is_valid(), Refusal::NotItsMakers)?;
+        Ok(RadiusKm(widened(self.0, km)))
     }
 }

@@ -2,9 +2,10 @@
 #![tactic(auto)]
 
 ghost use Rattle.std.specs.Prelude.{◌≡◌};
+ghost use Rattle.refusal.specs.Refusal.{number_in};
 ghost use Rattle.sections.specs.Sections.{inside, disjoint, sections_apart, section_refusal};
 
-use refusal::first;
+use refusal::{Refusal, refuse_if};
 
 // Bytes of a card, from `start` on; `end` is the first behind them.
 #[derive(Clone, Copy)]
@@ -38,13 +39,11 @@ fn are_apart(rows: ByteRange, circles: ByteRange) -> bool
 }
 
 // 25 (sections), 32, of a card of so many bytes.
-pub fn section_refusal(len: usize, rows: ByteRange, circles: ByteRange) -> u32
-    ensures { result ≡ section_refusal len rows circles }
+pub fn check_sections(len: usize, rows: ByteRange, circles: ByteRange) -> Result<(), Refusal>
+    ensures { number_in result ≡ section_refusal len rows circles }
 {
     let rows_inside = is_inside(len, rows);
     let circles_inside = is_inside(len, circles);
-    let ends = !(rows_inside & circles_inside);
-    let overlap = !are_apart(rows, circles);
-    let overlapping = first(overlap, refusal::SECTIONS_OVERLAP, refusal::PASSED);
-    first(ends, refusal::CARD_ENDS_EARLY, overlapping)
+    refuse_if(!(rows_inside & circles_inside), Refusal::CardEndsEarly)?;
+    refuse_if(!are_apart(rows, circles), Refusal::SectionsOverlap)
 }
