@@ -36,7 +36,7 @@ pub fn downward<T, F: Fn(u32, T) -> T>(turn: F, from: u32, seed: T) -> T
 
 // One turn of the sine.
 #[tactic(auto, unfolding(crate::specs::StandIns::sine_term))]
-fn sine_term(z: f64, k: u32, s: f64) -> f64
+pub fn sine_term(z: f64, k: u32, s: f64) -> f64
     requires { k ≤ 15 }
     ensures { result ≡ sine_term z k s }
 {
@@ -52,7 +52,7 @@ pub fn sin(x: f64) -> f64
 
 // One turn of the cosine.
 #[tactic(auto, unfolding(crate::specs::StandIns::cosine_term))]
-fn cosine_term(z: f64, k: u32, c: f64) -> f64
+pub fn cosine_term(z: f64, k: u32, c: f64) -> f64
     requires { (0 < k) × (k ≤ 15) }
     ensures { result ≡ cosine_term z k c }
 {
