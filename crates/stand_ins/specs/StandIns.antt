@@ -1,5 +1,5 @@
 -- Document 01, 'Geodesy': the stand-ins for sine, cosine, arctangent and arccosine. Each operation is rounded; each loop runs downward in k.
-use Rattle.std.specs.Prelude.{cond, ℕ, zero, suc, ◌+◌, ◌-◌, ◌*◌, Float}
+use Rattle.std.specs.Prelude.{◌≡◌, cond, ℕ, zero, suc, ◌+◌, ◌-◌, ◌*◌, Float}
 use Rattle.std.specs.Float.{binary64}
 use Rattle.std.specs.Float.Ieee.{add, sub, mul, div, le, of_bits}
 use Rattle.float.specs.Constants.{f64one, f64two, f64four, f64p21, f64p180}
@@ -15,9 +15,13 @@ abbrev pub root : Float → Float
 root x = sqrt_of binary64 x
 
 -- a loop downward: s after the turns k, k − 1, .., 1
-abbrev pub downward : (ℕ → Float → Float) → ℕ → Float → Float
+abbrev pub downward : {S : Type 0} → (ℕ → S → S) → ℕ → S → S
 downward turn zero s = s
 downward turn (suc k) s = downward turn k (turn (suc k) s)
+
+-- each call at k and s gives what `turn` gives
+abbrev pub IsTurn : {S : Type 0} → (ℕ → S → S → Type 0) → (ℕ → S → S) → Type 0
+IsTurn {S} gives turn = (k : ℕ) (s r : S) → gives k s r → r ≡ turn k s
 
 -- one turn of sin: s = 1 − (z / (2k(2k+1)))·s
 unfoldable pub sine_term : Float → ℕ → Float → Float

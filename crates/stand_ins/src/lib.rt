@@ -1,11 +1,11 @@
 // Document 01, 'Geodesy': the stand-ins for sine, cosine, arctangent and arccosine. Every public function takes every value.
 #![tactic(auto)]
 
-ghost use Rattle.std.specs.Prelude.{◌≡◌, cond, ◌+◌, ◌-◌, ◌*◌, ◌<◌, ◌≤◌};
+ghost use Rattle.std.specs.Prelude.{◌≡◌, cond, ℕ, ◌+◌, ◌-◌, ◌*◌, ◌<◌, ◌≤◌};
 ghost use Rattle.std.specs.Float.{binary64};
 ghost use Rattle.std.specs.Float.Ieee.{div, eq};
 ghost use Rattle.float.specs.Float.{f64zero, f64one, f64of};
-ghost use Rattle.stand_ins.specs.StandIns.{downward, sine_term, sin_of, cosine_term, cos_of, arctan_term, halved as halved_of, arctan_of, atan2_of, acos_of};
+ghost use Rattle.stand_ins.specs.StandIns.{IsTurn, downward, sine_term, sin_of, cosine_term, cos_of, arctan_term, halved as halved_of, arctan_of, atan2_of, acos_of};
 ghost use Rattle.stand_ins.specs.StandIns.{to_radians, to_degrees};
 
 pub const PI: f64 = 3.141592653589793;
@@ -22,8 +22,21 @@ fn turns(x: f64, few: u32, all: u32) -> u32
     all
 }
 
-// One turn of the sine's loop.
-fn sine_term(z: f64, k: u32, s: f64) -> f64
+// A series from its last term inward: s after the turns from, from − 1, .., 1.
+pub fn downward<T, F: Fn(u32, T) -> T>(turn: F, from: u32, seed: T) -> T
+    requires { (k : ℕ) (s : T) → 0 < k → k ≤ from → F.pre turn k s }
+    ensures { (by : ℕ → T → T) → IsTurn (F.post turn) by → result ≡ downward by from seed }
+{
+    let mut s = seed;
+    for before in (0..from).rev() {
+        s = turn(before + 1, s);
+    }
+    s
+}
+
+// One turn of the sine.
+#[tactic(auto, unfolding(crate::specs::StandIns::sine_term))]
+pub fn sine_term(z: f64, k: u32, s: f64) -> f64
     requires { k ≤ 15 }
     ensures { result ≡ sine_term z k s }
 {
@@ -34,17 +47,12 @@ pub fn sin(x: f64) -> f64
     ensures { result ≡ sin_of x }
 {
     let z = x * x;
-    let mut s = 1.0;
-    let mut k = turns(x, 2, 10);
-    while 0 < k {
-        s = sine_term(z, k, s);
-        k -= 1;
-    }
-    x * s
+    x * downward(|k, s| sine_term(z, k, s), turns(x, 2, 10), 1.0)
 }
 
-// One turn of the cosine's loop.
-fn cosine_term(z: f64, k: u32, c: f64) -> f64
+// One turn of the cosine.
+#[tactic(auto, unfolding(crate::specs::StandIns::cosine_term))]
+pub fn cosine_term(z: f64, k: u32, c: f64) -> f64
     requires { (0 < k) × (k ≤ 15) }
     ensures { result ≡ cosine_term z k c }
 {
@@ -55,13 +63,7 @@ pub fn cos(x: f64) -> f64
     ensures { result ≡ cos_of x }
 {
     let z = x * x;
-    let mut c = 1.0;
-    let mut k = turns(x, 1, 15);
-    while 0 < k {
-        c = cosine_term(z, k, c);
-        k -= 1;
-    }
-    c
+    downward(|k, c| cosine_term(z, k, c), turns(x, 1, 15), 1.0)
 }
 
 // The arctangent's reciprocal for k.
@@ -72,7 +74,8 @@ fn reciprocal(k: u32) -> f64
     1.0 / ((2 * k + 1) as f64)
 }
 
-// One turn of the arctangent's loop.
+// One turn of the arctangent.
+#[tactic(auto, unfolding(crate::specs::StandIns::arctan_term))]
 fn arctan_term(w: f64, k: u32, a: f64) -> f64
     requires { k ≤ 15 }
     ensures { result ≡ arctan_term w k a }
@@ -85,16 +88,12 @@ fn arctan_series(w: f64, top: u32) -> f64
     requires { (0 < top) × (top ≤ 15) }
     ensures { result ≡ arctan_term w 0 (downward (arctan_term w) (top - 1) (div binary64 f64one (f64of (2 * top + 1)))) }
 {
-    let mut a = reciprocal(top);
-    let mut k = top - 1;
-    while 0 < k {
-        a = arctan_term(w, k, a);
-        k -= 1;
-    }
+    let a = downward(|k, a| arctan_term(w, k, a), top - 1, reciprocal(top));
     arctan_term(w, 0, a)
 }
 
 // The tangent of half the angle whose tangent is t.
+#[tactic(auto, unfolding(crate::specs::StandIns::halved))]
 fn halved(t: f64) -> f64
     ensures { result ≡ halved_of t }
 {
@@ -110,6 +109,7 @@ fn arctan(t: f64) -> f64
 }
 
 // Close to the arctangent for y and x at least 0 and not both 0.
+#[tactic(auto, unfolding(crate::specs::StandIns::atan2_of))]
 pub fn atan2(y: f64, x: f64) -> f64
     ensures { result ≡ atan2_of y x }
 {
@@ -119,18 +119,21 @@ pub fn atan2(y: f64, x: f64) -> f64
     PI / 2.0 - arctan(x / y)
 }
 
+#[tactic(auto, unfolding(crate::specs::StandIns::acos_of))]
 pub fn acos(ratio: f64) -> f64
     ensures { result ≡ acos_of ratio }
 {
     2.0 * atan2(sqrt::sqrt(1.0 - ratio), sqrt::sqrt(1.0 + ratio))
 }
 
+#[tactic(auto, unfolding(crate::specs::StandIns::to_radians))]
 pub fn to_radians(degrees: f64) -> f64
     ensures { result ≡ to_radians degrees }
 {
     degrees * (PI / 180.0)
 }
 
+#[tactic(auto, unfolding(crate::specs::StandIns::to_degrees))]
 pub fn to_degrees(radians: f64) -> f64
     ensures { result ≡ to_degrees radians }
 {

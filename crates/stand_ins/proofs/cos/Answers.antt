@@ -1,20 +1,14 @@
--- `stand_ins::cos` meets its contract: `Downward` holds at each turn of its loop.
+-- `stand_ins::cos` meets its contract.
 -- Assumes nothing.
-use mathlib.Core.Path.{refl}
-use borrow.Author.Rules.{rules}
-use lib.Ieee.{eq}
+use Rattle.std.proofs.Common.{rules}
+use lib.Ieee.{eq, binary64, mul}
 use Rattle.float.specs.Float.{f64zero}
-use Rattle.stand_ins.proofs.Laws.{again, ended}
+use Rattle.stand_ins.specs.StandIns.{cosine_term}
 use Rattle.stand_ins.proofs.Zeros.{cosine_turns}
 use Rattle.stand_ins.proofs.cos.Goals as goal
 
-pub loop-k-init : goal.loop-k-init
-loop-k-init c = record { most = search rules; same = refl }
-
-pub loop-k-preserved : goal.loop-k-preserved
-loop-k-preserved c = again c.loop-k-test.true c.cosine_term-c.ensures c.loop-k.invariant
-
 pub returns : goal.returns
 returns c =
-    rw (ended c.loop-k-test.false c.loop-k.invariant, c.turns-k.ensures.0)
-    (cosine_turns (eq c.args.x f64zero) c.args.x c.well_formed.0.1 (λ e. e))
+    let x = c.args.x in
+    rw (c.downward.ensures (cosine_term (mul binary64 x x)) (λ k c r e. search rules), c.turns.ensures.0)
+    (cosine_turns (eq x f64zero) x c.well_formed.0.1 (λ e. e))
