@@ -8,11 +8,12 @@ ghost use Rattle.std.specs.Option.{SomeIff};
 ghost use Rattle.digits.specs.Digits.{decimal, hex_digit, hex_digits, is_count, shown, newline, bits_word};
 ghost use Rattle.digits.specs.Laid.{Begins, Lays};
 
-pub const SPACE: u8 = 32;
+pub const SPACE: u8 = b' ';
 
-pub const NEWLINE: u8 = 10;
+pub const NEWLINE: u8 = b'\n';
 
 // A lent slice, and the offset of what is laid next.
+// (d) No fmt::Write: what write! promises of the bytes holds only where it answers Ok, and nothing promises that it does.
 pub struct Page<'a> {
     out: &'a mut [u8],
     at: usize,
@@ -60,10 +61,11 @@ impl<'a> Page<'a> {
     fn put_byte(&mut self, b: u8)
         ensures { Lays self.old (b ∷ []) self.new }
     {
-        if self.at < self.out.len() {
-            self.out[self.at] = b;
+        let Page { out, at } = self;
+        if *at < out.len() {
+            out[*at] = b;
         }
-        self.at = self.at.saturating_add(1);
+        *at = at.saturating_add(1);
     }
 
     pub fn put_bytes(&mut self, text: &[u8])
@@ -106,6 +108,7 @@ impl<'a> Page<'a> {
     }
 
     // A count in decimal, every other number by its bits; and a newline.
+    #[tactic(auto, using(crate::proofs::Counts::shown_count))]
     pub fn put_shown(&mut self, x: f64)
         ensures { Lays self.old (shown x ++ newline) self.new }
     {
