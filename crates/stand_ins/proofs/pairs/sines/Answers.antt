@@ -1,11 +1,11 @@
--- `geodesy::sphere::sines` meets its contract.
+-- `stand_ins::pairs::sines` meets its contract.
 -- Assumes nothing.
 use Rattle.std.proofs.Common.{rules}
 use lib.Ieee.{binary64, mul}
 use Rattle.stand_ins.specs.StandIns.{sin_of, sine_term}
 use Rattle.stand_ins.proofs.Zeros.{sine_turns}
-use Rattle.geodesy.proofs.Pairs.{turns_of, both_answers}
-use Rattle.geodesy.proofs.sphere.sines.Goals as goal
+use Rattle.stand_ins.proofs.TwoSeries.{turns_of, both_answers}
+use Rattle.stand_ins.proofs.pairs.sines.Goals as goal
 
 pub returns : goal.returns
 returns c =

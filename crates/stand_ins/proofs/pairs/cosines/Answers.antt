@@ -1,11 +1,11 @@
--- `geodesy::sphere::cosines` meets its contract.
+-- `stand_ins::pairs::cosines` meets its contract.
 -- Assumes nothing.
 use Rattle.std.proofs.Common.{rules}
 use lib.Ieee.{binary64, mul}
 use Rattle.stand_ins.specs.StandIns.{cos_of, cosine_term}
 use Rattle.stand_ins.proofs.Zeros.{cosine_turns}
-use Rattle.geodesy.proofs.Pairs.{turns_of, both_answers}
-use Rattle.geodesy.proofs.sphere.cosines.Goals as goal
+use Rattle.stand_ins.proofs.TwoSeries.{turns_of, both_answers}
+use Rattle.stand_ins.proofs.pairs.cosines.Goals as goal
 
 pub returns : goal.returns
 returns c =

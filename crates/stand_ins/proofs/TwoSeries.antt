@@ -3,10 +3,10 @@ use mathlib.Core.Path.{◌≡◌, refl}
 use mathlib.Core.Bool.{Bool, true, cond, ◌&&◌}
 use Prim.Native.Nat.{ℕ, zero, suc}
 use lib.Ieee.{Float, binary64, mul, eq, fits}
-use Rattle.refusal.proofs.Tests.{both}
+use Rattle.std.proofs.lemmas.Bool.{and_parts}
 use Rattle.float.specs.Float.{f64zero, f64one}
 use Rattle.stand_ins.specs.StandIns.{downward}
-use Rattle.geodesy.specs.declared.sphere.Pair.{Pair}
+use Rattle.stand_ins.specs.declared.pairs.Pair.{Pair}
 
 -- one turn of both
 abbrev pub turns_of : (ℕ → Float → Float) → (ℕ → Float → Float) → ℕ → Pair → Pair
@@ -30,6 +30,6 @@ module _ (turn : Float → ℕ → Float → Float) (finish : Float → Float �
       (finish x p.first ≡ answer x) × (finish y p.second ≡ answer y)
   both_answers x y h g by sum =
       let zeros = eq x f64zero && eq y f64zero in (
-        rw (sum, by, firsts) (enough zeros x h (λ e. (both _ _ e).0)),
-        rw (sum, by, seconds) (enough zeros y g (λ e. (both _ _ e).1)),
+        rw (sum, by, firsts) (enough zeros x h (λ e. (and_parts _ _ e).0)),
+        rw (sum, by, seconds) (enough zeros y g (λ e. (and_parts _ _ e).1)),
       )
