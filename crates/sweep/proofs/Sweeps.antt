@@ -23,22 +23,22 @@ use Rattle.sweep.specs.private.Cell.{swept}
 
 -- the columns below j as they are, and the rest as the sweep of the cells from i on, sanitised, leaves it
 abbrev from_acc : ℕ → Carry → List ℕ → List Float → List Float → ℕ → ℕ → List Float
-from_acc nodata s row acc corr i j = take j acc ++ swept_acc s.prefix s.corr (sanitised_row nodata (drop i row)) (drop j acc) (drop j corr)
+from_acc nodata s row acc corr i j = take j acc ++ swept_acc s.prefix.sum s.prefix.dropped (sanitised_row nodata (drop i row)) (drop j acc) (drop j corr)
 
 abbrev from_corr : ℕ → Carry → List ℕ → List Float → List Float → ℕ → ℕ → List Float
-from_corr nodata s row acc corr i j = take j corr ++ swept_corr s.prefix s.corr (sanitised_row nodata (drop i row)) (drop j acc) (drop j corr)
+from_corr nodata s row acc corr i j = take j corr ++ swept_corr s.prefix.sum s.prefix.dropped (sanitised_row nodata (drop i row)) (drop j acc) (drop j corr)
 
 -- what is done, then what becomes of the rest, is what becomes of the whole
 pub record Midway (nodata digest : ℕ) (row₀ : List ℕ) (acc₀ corr₀ : List Float) (acc corr : List Float) (row : List ℕ) (s : Carry) (i : ℕ) : Type 0 where
-  cells : cells_of s.tallies ≡ i
+  cells : cells_of s.so_far.tallies ≡ i
   pub sums : from_acc nodata s row acc corr i (i + 1) ≡ acc_after (sanitised_row nodata row₀) acc₀ corr₀
   pub corrections : from_corr nodata s row acc corr i (i + 1) ≡ corr_after (sanitised_row nodata row₀) acc₀ corr₀
   pub clean : map_from (sanitised nodata) row i ≡ sanitised_row nodata row₀
-  pub tallies : tallies_from nodata s.tallies (drop i row) ≡ row_tallies nodata row₀
-  pub digests : digest_of s.digest (sanitised_row nodata (drop i row)) ≡ digest_of digest (sanitised_row nodata row₀)
+  pub tallies : tallies_from nodata s.so_far.tallies (drop i row) ≡ row_tallies nodata row₀
+  pub digests : digest_of s.so_far.digest (sanitised_row nodata (drop i row)) ≡ digest_of digest (sanitised_row nodata row₀)
 
 pub start : (nodata digest : ℕ) (row : List ℕ) (acc corr : List Float) (t : CellTallies) → t ≡ no_tallies
-    → Midway nodata digest row acc corr acc corr row (record { prefix = f64zero; corr = f64zero; digest = digest; tallies = t }) 0
+    → Midway nodata digest row acc corr acc corr row (record { prefix = record { sum = f64zero; dropped = f64zero }; so_far = record { digest = digest; tallies = t } }) 0
 unfolding acc_after corr_after
 start nodata digest row acc corr t e = rw e (record { cells = refl; sums = refl; corrections = refl; clean = refl; tallies = refl; digests = refl })
 
@@ -48,9 +48,9 @@ module _ (nodata : ℕ) (row : List ℕ) (acc corr : List Float) (s : Carry) (i 
   cell j = swept nodata s (get_or row i 0) (get_or acc j nan) (get_or corr j nan)
 
   module _ (j : ℕ) (a : j < length acc) (c : j < length corr) where
-    turn_sums : (from_acc nodata (cell j).carry (set row i (cell j).cell) (set acc j (cell j).acc) (set corr j (cell j).corr) (i + 1) (j + 1)
+    turn_sums : (from_acc nodata (cell j).carry (set row i (cell j).cell) (set acc j (cell j).after.sum) (set corr j (cell j).after.dropped) (i + 1) (j + 1)
         ≡ from_acc nodata s row acc corr i j)
-        × (from_corr nodata (cell j).carry (set row i (cell j).cell) (set acc j (cell j).acc) (set corr j (cell j).corr) (i + 1) (j + 1)
+        × (from_corr nodata (cell j).carry (set row i (cell j).cell) (set acc j (cell j).after.sum) (set corr j (cell j).after.dropped) (i + 1) (j + 1)
         ≡ from_corr nodata s row acc corr i j)
     unfolding swept
     turn_sums =
@@ -76,18 +76,18 @@ module _ (nodata : ℕ) (row : List ℕ) (acc corr : List Float) (s : Carry) (i 
   pub turn : (digest : ℕ) (row₀ : List ℕ) (acc₀ corr₀ : List Float) (col : Column) → col ≡ cell (i + 1)
       → i + 1 < length acc → i + 1 < length corr → i < 0xffff_ffff_ffff_ffff
       → Midway nodata digest row₀ acc₀ corr₀ acc corr row s i
-      → Midway nodata digest row₀ acc₀ corr₀ (set acc (i + 1) col.acc) (set corr (i + 1) col.corr) (set row i col.cell) col.carry (i + 1)
+      → Midway nodata digest row₀ acc₀ corr₀ (set acc (i + 1) col.after.sum) (set corr (i + 1) col.after.dropped) (set row i col.cell) col.carry (i + 1)
   unfolding swept
   turn digest row₀ acc₀ corr₀ col e a c b m =
-      let one = one_more s.tallies (kind_of nodata (get_or row i 0)) in
-      let t = tallies_held (tallied s.tallies (kind_of nodata (get_or row i 0))) (omega (arith, one, m.cells)) in
+      let one = one_more s.so_far.tallies (kind_of nodata (get_or row i 0)) in
+      let t = tallies_held (tallied s.so_far.tallies (kind_of nodata (get_or row i 0))) (omega (arith, one, m.cells)) in
       rw e (record {
         cells = ap cells_of t ∙ one ∙ ap (λ n. n + 1) m.cells;
         sums = (turn_sums (i + 1) a c).0 ∙ m.sums;
         corrections = (turn_sums (i + 1) a c).1 ∙ m.corrections;
         clean = map_turn (sanitised nodata) row i _ r refl ∙ m.clean;
-        tallies = rw t (tallies_turn nodata s.tallies row i _ r) ∙ m.tallies;
-        digests = turn_digest s.digest _ refl ∙ m.digests;
+        tallies = rw t (tallies_turn nodata s.so_far.tallies row i _ r) ∙ m.tallies;
+        digests = turn_digest s.so_far.digest _ refl ∙ m.digests;
       })
 
 -- a sweep of no cells, or of no columns, leaves everything
@@ -123,10 +123,10 @@ module _ (nodata : ℕ) (s : Carry) (row : List ℕ) (acc corr : List Float) (i 
       ) (none_above (length row) (min (length acc) (length corr)) i r)
 
   pub end_acc : from_acc nodata s row acc corr i (i + 1) ≡ acc
-  end_acc = rw (none_acc s.prefix s.corr (sanitised_row nodata (drop i row)) (drop (i + 1) acc) (drop (i + 1) corr) none_left, take-append-drop)
+  end_acc = rw (none_acc s.prefix.sum s.prefix.dropped (sanitised_row nodata (drop i row)) (drop (i + 1) acc) (drop (i + 1) corr) none_left, take-append-drop)
 
   pub end_corr : from_corr nodata s row acc corr i (i + 1) ≡ corr
-  end_corr = rw (none_corr s.prefix s.corr (sanitised_row nodata (drop i row)) (drop (i + 1) acc) (drop (i + 1) corr) none_left, take-append-drop)
+  end_corr = rw (none_corr s.prefix.sum s.prefix.dropped (sanitised_row nodata (drop i row)) (drop (i + 1) acc) (drop (i + 1) corr) none_left, take-append-drop)
 
 -- ---- a slice lent from an element on
 
