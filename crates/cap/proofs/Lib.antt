@@ -2,3 +2,4 @@
 pub mod Walks
 pub mod Steps
 pub mod SameTests
+pub mod Backward

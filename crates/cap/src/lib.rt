@@ -2,8 +2,8 @@
 // (Cap of kernel.rs).
 #![tactic(auto)]
 
-ghost use Rattle.std.specs.Prelude.{◌≡◌, min, ◌≤◌};
-ghost use Rattle.cap.specs.Walks.{climbed, descended};
+ghost use Rattle.std.specs.Prelude.{◌≡◌, Bool, ℕ, min, ◌≤◌, ◌<◌};
+ghost use Rattle.cap.specs.Walks.{IsTest, climbed, descended};
 ghost use Rattle.cap.specs.Terms.{lon_term, cap_terms, row_terms, within_angle, contained_by, reached_by};
 ghost use Rattle.cap.specs.Terms.{edge_ratio_by, edge_columns_by, estimated_by, half_width_by};
 ghost use Rattle.cap.specs.Cap.{closing as closing_of};
@@ -46,6 +46,7 @@ pub fn closing(width: u32) -> u32
 }
 
 // sin² of half the longitude that so many columns span.
+#[tactic(auto, unfolding(crate::specs::Terms::lon_term))]
 fn lon_term(lon_step: f64, cells: u32) -> f64
     ensures { result ≡ lon_term lon_step cells }
 {
@@ -53,135 +54,128 @@ fn lon_term(lon_step: f64, cells: u32) -> f64
     half * half
 }
 
-pub fn cap_terms(cap: Cap) -> CapTerms
-    ensures { result ≡ cap_terms cap }
+// Up from start while the next number is in, to `last` at most.
+pub fn walk_up<F: Fn(u32) -> bool>(is_in: F, start: u32, last: u32) -> u32
+    requires before { start ≤ last }
+    requires callable { (h : ℕ) → start < h → h ≤ last → F.pre is_in h }
+    ensures { (p : ℕ → Bool) → IsTest (F.post is_in) p → result ≡ climbed p last start }
 {
-    let lat_rad = stand_ins::to_radians(cap.centre_lat);
-    CapTerms {
-        angle_rad: cap.angle_rad,
-        lon_step: cap.lon_step,
-        closing: closing(cap.width),
-        lat_rad,
-        lat_sine: stand_ins::sin(lat_rad),
-        lat_cosine: stand_ins::cos(lat_rad),
-        angle_cosine: stand_ins::cos(cap.angle_rad),
-        meridian_term: lon_term(cap.lon_step, 0),
-    }
+    (start..last).find(|&h| !is_in(h + 1)).unwrap_or(last)
 }
 
-// The row at `lat`.
-fn row_terms(cap: CapTerms, lat: f64) -> RowTerms
-    ensures { result ≡ row_terms cap lat }
+// Down from start to the first number that is in, or to 0.
+pub fn walk_down<F: Fn(u32) -> bool>(is_in: F, start: u32) -> u32
+    requires { (h : ℕ) → 0 < h → h ≤ start → F.pre is_in h }
+    ensures { (p : ℕ → Bool) → IsTest (F.post is_in) p → result ≡ descended p start }
 {
-    let lat_rad = stand_ins::to_radians(lat);
-    let half = stand_ins::sin((lat_rad - cap.lat_rad) / 2.0);
-    RowTerms {
-        lat_rad,
-        lat_term: half * half,
-        cosines: cap.lat_cosine * stand_ins::cos(lat_rad),
-    }
+    (0..start)
+        .rev()
+        .find(|&h| is_in(h + 1))
+        .map_or(0, |h| h + 1)
 }
 
-// Whether a cell of the row, by its longitude's term, is at most the angle away. An angle of 0 holds nothing.
-fn is_within_angle(cap: CapTerms, row: RowTerms, term: f64) -> bool
-    ensures { result ≡ within_angle cap row term }
-{
-    if cap.angle_rad == 0.0 {
-        return false;
-    }
-    geodesy::angle_of(row.lat_term + row.cosines * term) <= cap.angle_rad
-}
-
-// Whether the cell that many columns along the row is in the cap.
-fn contains(cap: CapTerms, row: RowTerms, cells: u32) -> bool
-    ensures { result ≡ contained_by cap row cells }
-{
-    is_within_angle(cap, row, lon_term(cap.lon_step, cells))
-}
-
-// Whether the cap reaches the row at `lat`: the cell on its own meridian is the closest.
-pub fn reaches(cap: CapTerms, lat: f64) -> bool
-    ensures { result ≡ reached_by cap lat }
-{
-    is_within_angle(cap, row_terms(cap, lat), cap.meridian_term)
-}
-
-// The cosine of the longitude at which the cap's edge crosses the row, by the law of cosines.
-fn edge_ratio(cap: CapTerms, row: RowTerms) -> f64
-    ensures { result ≡ edge_ratio_by cap row }
-{
-    (cap.angle_cosine - cap.lat_sine * stand_ins::sin(row.lat_rad)) / row.cosines
-}
-
-fn edge_columns(cap: CapTerms, ratio: f64) -> f64
-    ensures { result ≡ edge_columns_by cap ratio }
-{
-    stand_ins::to_degrees(stand_ins::acos(ratio)) / float::abs(cap.lon_step)
-}
-
-// Where the walk starts. The cosines can be 0, so the ratio can be infinite or NaN.
-fn estimate(cap: CapTerms, row: RowTerms) -> u32
-    ensures { result ≡ estimated_by cap row }
-{
-    let ratio = edge_ratio(cap, row);
-    if ratio >= 1.0 {
-        return 0;
-    }
-    if (ratio <= -1.0) | (ratio != ratio) {
-        return cap.closing;
-    }
-    let columns = edge_columns(cap, ratio);
-    if (columns != columns) | (columns >= cap.closing as f64) {
-        return cap.closing;
-    }
-    float::to_u32(columns)
-}
-
-// Up from start while the next column is in.
-fn walk_up(cap: CapTerms, row: RowTerms, start: u32) -> u32
-    requires { start ≤ cap.closing }
-    ensures { result ≡ climbed (contained_by cap row) cap.closing start }
-{
-    let mut h = start;
-    loop {
-        if cap.closing <= h {
-            break h;
+impl Cap {
+    #[tactic(auto, unfolding(crate::specs::Terms::cap_terms))]
+    pub fn terms(self) -> CapTerms
+        ensures { result ≡ cap_terms self }
+    {
+        let lat_rad = stand_ins::to_radians(self.centre_lat);
+        CapTerms {
+            angle_rad: self.angle_rad,
+            lon_step: self.lon_step,
+            closing: closing(self.width),
+            lat_rad,
+            lat_sine: stand_ins::sin(lat_rad),
+            lat_cosine: stand_ins::cos(lat_rad),
+            angle_cosine: stand_ins::cos(self.angle_rad),
+            meridian_term: lon_term(self.lon_step, 0),
         }
-        if !contains(cap, row, h + 1) {
-            break h;
-        }
-        h += 1;
     }
 }
 
-// Down from start until a column is in, or to 0.
-fn walk_down(cap: CapTerms, row: RowTerms, start: u32) -> u32
-    ensures { result ≡ descended (contained_by cap row) start }
-{
-    let mut h = start;
-    loop {
-        if h == 0 {
-            break h;
+impl CapTerms {
+    // The row at `lat`.
+    #[tactic(auto, unfolding(crate::specs::Terms::row_terms))]
+    fn row(self, lat: f64) -> RowTerms
+        ensures { result ≡ row_terms self lat }
+    {
+        let lat_rad = stand_ins::to_radians(lat);
+        let half = stand_ins::sin((lat_rad - self.lat_rad) / 2.0);
+        RowTerms {
+            lat_rad,
+            lat_term: half * half,
+            cosines: self.lat_cosine * stand_ins::cos(lat_rad),
         }
-        if contains(cap, row, h) {
-            break h;
-        }
-        h -= 1;
     }
-}
 
-fn at_most(n: u32, limit: u32) -> u32
-    ensures { (result ≡ min n limit) × (result ≤ limit) }
-{
-    if n < limit { n } else { limit }
-}
+    // Whether a cell of the row, by its longitude's term, is at most the angle away. An angle of 0 holds nothing.
+    #[tactic(auto, unfolding(crate::specs::Terms::within_angle))]
+    fn is_within_angle(self, row: RowTerms, term: f64) -> bool
+        ensures { result ≡ within_angle self row term }
+    {
+        if self.angle_rad == 0.0 {
+            return false;
+        }
+        geodesy::angle_of(row.lat_term + row.cosines * term) <= self.angle_rad
+    }
 
-// The half-width of the row at `lat`: the estimate may be off, the walk decides.
-pub fn half_width(cap: CapTerms, lat: f64) -> u32
-    ensures { result ≡ half_width_by cap lat }
-{
-    let row = row_terms(cap, lat);
-    let start = at_most(estimate(cap, row), cap.closing);
-    let up = walk_up(cap, row, start);
-    walk_down(cap, row, up)
+    // Whether the cell that many columns along the row is in the cap.
+    #[tactic(auto, unfolding(crate::specs::Terms::contained_by))]
+    fn contains(self, row: RowTerms, cells: u32) -> bool
+        ensures { result ≡ contained_by self row cells }
+    {
+        self.is_within_angle(row, lon_term(self.lon_step, cells))
+    }
+
+    // Whether the cap reaches the row at `lat`: the cell on its own meridian is the closest.
+    #[tactic(auto, unfolding(crate::specs::Terms::reached_by))]
+    pub fn reaches(self, lat: f64) -> bool
+        ensures { result ≡ reached_by self lat }
+    {
+        self.is_within_angle(self.row(lat), self.meridian_term)
+    }
+
+    // The cosine of the longitude at which the cap's edge crosses the row, by the law of cosines.
+    #[tactic(auto, unfolding(crate::specs::Terms::edge_ratio_by))]
+    fn edge_ratio(self, row: RowTerms) -> f64
+        ensures { result ≡ edge_ratio_by self row }
+    {
+        (self.angle_cosine - self.lat_sine * stand_ins::sin(row.lat_rad)) / row.cosines
+    }
+
+    #[tactic(auto, unfolding(crate::specs::Terms::edge_columns_by))]
+    fn edge_columns(self, ratio: f64) -> f64
+        ensures { result ≡ edge_columns_by self ratio }
+    {
+        stand_ins::to_degrees(stand_ins::acos(ratio)) / float::abs(self.lon_step)
+    }
+
+    // Where the walk starts. The cosines can be 0, so the ratio can be infinite or NaN.
+    #[tactic(auto, using(crate::proofs::Steps::nan_differs), unfolding(crate::specs::Terms::estimated_by))]
+    fn estimate(self, row: RowTerms) -> u32
+        ensures { result ≡ estimated_by self row }
+    {
+        let ratio = self.edge_ratio(row);
+        if ratio >= 1.0 {
+            return 0;
+        }
+        if (ratio <= -1.0) | (ratio != ratio) {
+            return self.closing;
+        }
+        let columns = self.edge_columns(ratio);
+        if (columns != columns) | (columns >= self.closing as f64) {
+            return self.closing;
+        }
+        float::to_u32(columns)
+    }
+
+    // The half-width of the row at `lat`: the estimate may be off, the walk decides.
+    pub fn half_width(self, lat: f64) -> u32
+        ensures { result ≡ half_width_by self lat }
+    {
+        let row = self.row(lat);
+        let start = self.estimate(row).min(self.closing);
+        let up = walk_up(|h| self.contains(row, h), start, self.closing);
+        walk_down(|h| self.contains(row, h), up)
+    }
 }

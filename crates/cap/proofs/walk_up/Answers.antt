@@ -1,27 +1,15 @@
 -- `cap::walk_up` meets its contract.
 -- Assumes nothing.
-use mathlib.Core.Path.{refl, sym, ◌∙◌}
-use native.Mathlib.Omega.{arith}
-use Rattle.cap.specs.Terms.{contained_by}
-use Rattle.cap.proofs.Steps.{climb_turn, climb_out, climb_end}
+use Rattle.std.proofs.Common.{rules, suc, ◌≡◌, false, true}
+use borrow.Author.Tests.{tests}
+use Rattle.std.proofs.lemmas.Iterator.{first_from_Range}
+use Rattle.cap.proofs.Steps.{climbed_to}
 use Rattle.cap.proofs.walk_up.Goals as goal
 
-pub loop-h-init : goal.loop-h-init
-loop-h-init c = (c.requires, refl)
-
-pub loop-h-preserved : goal.loop-h-preserved
-loop-h-preserved c =
+pub returns : goal.returns
+returns g c p is =
     let a = c.args in
-    let t = climb_turn (contained_by a.cap a.row) a.cap.closing c.loop-h.h in
-    (omega arith, t c.if-cap-h.false (sym c.contains.ensures ∙ c.if-not-contains.false) ∙ c.loop-h.invariant.1)
-
-pub returns-then-cap-h : goal.returns-then-cap-h
-returns-then-cap-h c =
-    let a = c.args in
-    climb_end (contained_by a.cap a.row) a.cap.closing c.loop-h.h c.if-cap-h.true ∙ c.loop-h.invariant.1
-
-pub returns-then-not-contains : goal.returns-then-not-contains
-returns-then-not-contains c =
-    let a = c.args in
-    let t = climb_out (contained_by a.cap a.row) a.cap.closing c.loop-h.h in
-    t (sym c.contains.ensures ∙ c.if-not-contains.true) ∙ c.loop-h.invariant.1
+    let found =
+    first_from_Range _ _ _ _ (λ k. p (suc k) ≡ false) (λ k. p (suc k) ≡ true) c.find.ensures.ran (λ x q k. search (rules, tests, is)) (λ x q k. search (rules, tests, is))
+    in
+    rw c.unwrap_or.ensures (climbed_to p a.last a.start _ c.requires.before found)
