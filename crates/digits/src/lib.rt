@@ -40,7 +40,11 @@ fn is_count(x: f64) -> bool
 fn as_count(x: f64) -> Option<u64>
     ensures { SomeIff result (is_count x ≡ true) (to_unsigned 64 x) }
 {
-    if is_count(x) { Some(std::num::truncating_f64_to_u64(x)) } else { None }
+    if is_count(x) {
+        Some(std::num::truncating_f64_to_u64(x))
+    } else {
+        None
+    }
 }
 
 impl<'a> Page<'a> {

@@ -1,6 +1,6 @@
 -- `digits::Page::put_digits` meets its contract.
 -- Assumes nothing.
-use Rattle.std.proofs.Common.{arith, sym, ap}
+use Rattle.std.proofs.Common.{arith}
 use Rattle.digits.proofs.Digits.{one_left, more_left, fewer_left, decimal_first, decimal_last, hex_last, hex_before}
 use Rattle.digits.proofs.Laying.{lays_then}
 use Rattle.digits.proofs.Page.+put_digits.Goals as goal
