@@ -1,7 +1,7 @@
--- `layout::walk::next` meets its contract.
+-- `layout::walk::TableCell::next` meets its contract.
 -- Assumes nothing.
 use Rattle.layout.proofs.Places.{behind_in_run, behind_run, behind_block, behind_line}
-use Rattle.layout.proofs.walk.next.Goals as goal
+use Rattle.layout.proofs.TableCell.next.Goals as goal
 
 pub returns-then-col-lt7 : goal.returns-then-col-lt7
 returns-then-col-lt7 c = behind_in_run _ _ _ c.if-col-lt7.true c.requires.0
