@@ -104,44 +104,16 @@ module _ (prefix rest : Float) where
   none_corr (x ∷ row) (a ∷ acc) [] e = refl
   none_corr (x ∷ row) (a ∷ acc) (c ∷ corr) e = absurd (omega arith)
 
-min_sub : (a b i : ℕ) → min (a - i) (b - i) ≡ min a b - i
-min_sub a b i = omega arith
-
-none_above : (r m i : ℕ) → min r (m - 1) ≤ i → min (r - i) (m - (i + 1)) ≡ 0
-none_above r m i h = omega arith
-
 -- the sweep ends where the row or the columns do
 module _ (nodata : ℕ) (s : Carry) (row : List ℕ) (acc corr : List Float) (i : ℕ) (r : min (length row) (min (length acc) (length corr) - 1) ≤ i) where
   none_left : min (length (sanitised_row nodata (drop i row))) (min (length (drop (i + 1) acc)) (length (drop (i + 1) corr))) ≡ 0
-  none_left =
-      rw (
-        length-map (drop i row) (sanitised nodata),
-        length-drop i row,
-        length-drop (i + 1) acc,
-        length-drop (i + 1) corr,
-        min_sub (length acc) (length corr) (i + 1),
-      ) (none_above (length row) (min (length acc) (length corr)) i r)
+  none_left = simp (length-map, length-drop) (omega arith)
 
   pub end_acc : from_acc nodata s row acc corr i (i + 1) ≡ acc
   end_acc = rw (none_acc s.prefix.sum s.prefix.dropped (sanitised_row nodata (drop i row)) (drop (i + 1) acc) (drop (i + 1) corr) none_left, take-append-drop)
 
   pub end_corr : from_corr nodata s row acc corr i (i + 1) ≡ corr
   end_corr = rw (none_corr s.prefix.sum s.prefix.dropped (sanitised_row nodata (drop i row)) (drop (i + 1) acc) (drop (i + 1) corr) none_left, take-append-drop)
-
--- ---- a slice lent from an element on
-
-module _ {A : Type 0} (i : ℕ) (l : List A) where
-  pub rest_all : take (length l - i) (drop i l) ≡ drop i l
-  rest_all = take_all (length l - i) (drop i l) (omega (arith, length-drop i l))
-
-  pub rest_back : (e ys : List A) → e ≡ ys → take i l ++ (e ++ drop (length l - i) (drop i l)) ≡ take i l ++ ys
-  rest_back e ys q =
-      let h : length (drop i l) ≤ length l - i = omega (arith, length-drop i l) in
-      rw (drop_of_length-le (drop i l) h, append-nil, q)
-
-  -- and lent again
-  pub rest_again : (l' ys : List A) → i ≤ length l → l' ≡ take i l ++ ys → take (length l' - i) (drop i l') ≡ ys
-  rest_again l' ys h e = take_all (length l' - i) (drop i l') (omega (arith, length-drop i l')) ∙ rw e (drop_at (take i l) ys i (length-take-le i l h))
 
 -- ---- lengths
 
