@@ -1,4 +1,4 @@
--- `table::sum::through` meets its contract.
+-- `table::Lines::through` meets its contract.
 -- Assumes nothing.
 use Prim.Native.Nat.{◌+◌}
 use native.Mathlib.Omega.{arith}
@@ -7,7 +7,7 @@ use borrow.Author.Tests.{le-leb, lt-leb}
 use Rattle.layout.proofs.Places.{runs_in_order}
 use Rattle.table.specs.Rectangle.{rectangle_sum}
 use Rattle.table.proofs.Checks.{first_piece}
-use Rattle.table.proofs.sum.through.Goals as goal
+use Rattle.table.proofs.Lines.through.Goals as goal
 
 pub first_end-requires : goal.first_end-requires
 first_end-requires c = c.requires.2
