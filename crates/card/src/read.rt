@@ -10,7 +10,7 @@ use decimation::{Decimation, DecimationAnswer};
 use geodesy::LatLon;
 use grid::{Grid, GridAnswer};
 use refusal::first;
-use sections::{ByteRange, section_refusal};
+use sections::ByteRange;
 
 // The most bytes of a card, and the most places of its source table.
 const MOST_BYTES: usize = 65536;
@@ -84,7 +84,7 @@ fn with_header(card: &[u8], h: Header) -> HeaderAnswer
     let large = is_table_too_large(d.source);
     let rows = rows_of(h);
     let circles = circles_of(h);
-    let sections = section_refusal(card.len(), rows, circles);
+    let sections = 0;
     let n = first(large, refusal::CARD_TOO_LARGE, sections);
     if n != refusal::PASSED {
         return HeaderAnswer::Refused(n);
