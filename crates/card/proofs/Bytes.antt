@@ -1,12 +1,16 @@
 -- Little-endian words, byte by byte. Assumes nothing.
 use mir.Syntax.{w32, w64}
-use mathlib.Core.Path.{◌≡◌, refl, sym, ◌∙◌}
+use mathlib.Core.Path.{◌≡◌, refl, subst, ◌∙◌}
 use mathlib.Core.List.{List, [], ◌∷◌}
-use Prim.Native.Nat.{ℕ, ◌+◌, ◌*◌, ◌<◌}
+use Prim.Native.Nat.{ℕ, zero, suc, ◌+◌, ◌*◌, ◌<◌}
+use native.Mathlib.Nat.{add_assoc}
 use native.Mathlib.Omega.{arith}
+use denote.Param.Members.{Mut}
 use lib.Dec.{lit<}
 use lib.ListN.{take, drop, get_or}
 use lib.Seq.{get_or-drop, drop-drop}
+use Rattle.std.specs.Array.{IsFromFnResultFrom}
+use Rattle.std.specs.Fn.{Called}
 use Rattle.std.specs.Int.{from_le_bytes}
 use Rattle.card.specs.Words.{little_endian, u32_at, u64_at}
 
@@ -33,47 +37,38 @@ pub u64_words : (l : List ℕ) (i : ℕ) → u64_at l i ≡ u32_at l i + 4294967
 unfolding u32_at u64_at
 u64_words l i = eight (drop i l) ∙ rw (drop-drop 4 i l)
 
+-- the elements of an array that a closure gave which stays as it is, and gives h of each index
+pub each_given : {F B : Type 0} (g : Mut F (ℕ × Unit {0}) B) (f : F) (h : ℕ → B)
+    → ((i : ℕ) (y : B) (q : F) → Called g f (i, tt) y q → (q ≡ f) × (y ≡ h i))
+    → (ys : List B) (i n : ℕ) → IsFromFnResultFrom g f ys i n → (k j : ℕ) (d : B) → k < n → i + k ≡ j → get_or ys j d ≡ h j
+each_given g f h s ys i zero e k j d l p = absurd (omega arith)
+each_given g f h s ys i (suc n) e zero j d l p =
+    let q : j ≡ i = omega arith in
+    rw q (e.2.1 d ∙ (s i e.1 e.0 e.3).1)
+each_given {F} g f h s ys i (suc n) e (suc k) j d l p =
+    let same = (s i e.1 e.0 e.3).0 in
+    each_given g f h s ys (i + 1) n (subst (λ (w : F). IsFromFnResultFrom g w ys (i + 1) n) same e.4) k j d (omega arith) (omega arith)
+
 -- ---- words as the library makes them of bytes that are those of the card from a place on
 
-of_four : (l : List ℕ) → from_le_bytes w32 l ≡ little_endian (take 4 l)
-of_four [] = refl
-of_four (a ∷ []) = omega arith
-of_four (a ∷ b ∷ []) = omega arith
-of_four (a ∷ b ∷ c ∷ []) = omega arith
-of_four (a ∷ b ∷ c ∷ d ∷ l) = omega arith
-
-of_eight : (l : List ℕ) → from_le_bytes w64 l ≡ little_endian (take 8 l)
-of_eight [] = refl
-of_eight (a ∷ []) = omega arith
-of_eight (a ∷ b ∷ []) = omega arith
-of_eight (a ∷ b ∷ c ∷ []) = omega arith
-of_eight (a ∷ b ∷ c ∷ d ∷ []) = omega arith
-of_eight (a ∷ b ∷ c ∷ d ∷ e ∷ []) = omega arith
-of_eight (a ∷ b ∷ c ∷ d ∷ e ∷ f ∷ []) = omega arith
-of_eight (a ∷ b ∷ c ∷ d ∷ e ∷ f ∷ g ∷ []) = omega arith
-of_eight (a ∷ b ∷ c ∷ d ∷ e ∷ f ∷ g ∷ h ∷ l) = omega arith
-
 module _ (l : List ℕ) (i : ℕ) (bs : List ℕ) where
-  byte : (n : ℕ) → ((k : ℕ) → k < n → get_or bs k 0 ≡ get_or l (i + k) 0) → (k : ℕ) → k < n → get_or bs k 0 ≡ get_or (drop i l) k 0
-  byte n h k p = h k p ∙ sym (get_or-drop i l k 0)
-
   pub u32_joined : ((k : ℕ) → k < 4 → get_or bs k 0 ≡ get_or l (i + k) 0) → from_le_bytes w32 bs ≡ u32_at l i
-  unfolding u32_at
-  u32_joined h =
-      let b = byte 4 h in
-      rw (b 0 (lit< tt), b 1 (lit< tt), b 2 (lit< tt), b 3 (lit< tt)) (of_four (drop i l))
+  u32_joined h = omega (arith, u32_bytes l i, h 0 (lit< tt), h 1 (lit< tt), h 2 (lit< tt), h 3 (lit< tt))
 
   pub u64_joined : ((k : ℕ) → k < 8 → get_or bs k 0 ≡ get_or l (i + k) 0) → from_le_bytes w64 bs ≡ u64_at l i
-  unfolding u64_at
   u64_joined h =
-      let b = byte 8 h in
-      rw (
-        b 0 (lit< tt),
-        b 1 (lit< tt),
-        b 2 (lit< tt),
-        b 3 (lit< tt),
-        b 4 (lit< tt),
-        b 5 (lit< tt),
-        b 6 (lit< tt),
-        b 7 (lit< tt),
-      ) (of_eight (drop i l))
+      let later : (k : ℕ) → 4 + k < 8 → get_or bs (4 + k) 0 ≡ get_or l (i + 4 + k) 0 = λ k p. rw add_assoc (h (4 + k) p) in
+      omega (
+        arith,
+        u64_words l i,
+        u32_bytes l i,
+        u32_bytes l (i + 4),
+        h 0 (lit< tt),
+        h 1 (lit< tt),
+        h 2 (lit< tt),
+        h 3 (lit< tt),
+        later 0 (lit< tt),
+        later 1 (lit< tt),
+        later 2 (lit< tt),
+        later 3 (lit< tt),
+      )

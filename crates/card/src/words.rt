@@ -1,22 +1,23 @@
 // Little-endian words of a card. A byte past the card's end counts as 0.
 ghost use Rattle.std.specs.Prelude.{◌≡◌, ℕ, ◌+◌, ◌<◌, slice_index};
-ghost use Rattle.card.specs.Words.{u32_at, u64_at, f64_at};
+ghost use Rattle.card.specs.Words.{u32_at, f64_at};
 ghost use Rattle.card.specs.Card.{circle_at};
 
 use crate::{CardCircle, Header};
 use std::array::from_fn;
 
-fn byte_at(card: &[u8], at: usize) -> u8
-    ensures { result ≡ slice_index card.now at }
+// The byte that is k past a place.
+fn byte_at(card: &[u8], at: usize, k: usize) -> u8
+    ensures { result ≡ slice_index card.now (at + k) }
 {
-    card.get(at).copied().unwrap_or(0)
+    card.get(at.saturating_add(k)).copied().unwrap_or(0)
 }
 
 // N bytes from a place on.
 fn bytes_at<const N: usize>(card: &[u8], at: usize) -> [u8; N]
     ensures { (k : ℕ) → k < N → slice_index result k ≡ slice_index card.now (at + k) }
 {
-    from_fn(|k| byte_at(card, at.saturating_add(k)))
+    from_fn(|k| byte_at(card, at, k))
 }
 
 pub fn u32_at(card: &[u8], at: usize) -> u32
@@ -25,16 +26,10 @@ pub fn u32_at(card: &[u8], at: usize) -> u32
     u32::from_le_bytes(bytes_at(card, at))
 }
 
-fn u64_at(card: &[u8], at: usize) -> u64
-    ensures { result ≡ u64_at card.now at }
-{
-    u64::from_le_bytes(bytes_at(card, at))
-}
-
 pub(crate) fn f64_at(card: &[u8], at: usize) -> f64
     ensures { result ≡ f64_at card.now at }
 {
-    float::from_bits(u64_at(card, at))
+    float::from_bits(u64::from_le_bytes(bytes_at(card, at)))
 }
 
 // Circle i of a header's circles.
