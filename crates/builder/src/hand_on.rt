@@ -10,24 +10,15 @@ ghost use Rattle.builder.specs.private.Runs.{laid_runs, stored};
 use crate::Builder;
 use grid::Grid;
 
-fn fill(coarse: &mut [f64], acc: &[f64], factor: usize)
-    requires { length coarse.old * factor < length acc.now + factor }
-    ensures { coarse.new ≡ sampled acc.now factor coarse.old }
-{
-    let mut j = 0;
-    while j < coarse.len() {
-        coarse[j] = acc[j * factor];
-        j += 1;
-    }
-}
-
 // The coarse row takes every factor-th entry of the accumulator; at factor 1 it is not written.
 fn fill_coarse(coarse: &mut [f64], acc: &[f64], factor: usize)
     requires { length coarse.old * factor < length acc.now + factor }
     ensures { coarse.new ≡ coarse_filled acc.now coarse.old factor }
 {
     if factor != 1 {
-        fill(coarse, acc, factor);
+        for (j, cell) in coarse.iter_mut().enumerate() {
+            *cell = acc[j * factor];
+        }
     }
 }
 
@@ -43,42 +34,26 @@ fn decimated<'a>(acc: &'a [f64], coarse: &'a [f64], factor: usize, n: usize) -> 
     &coarse[..n]
 }
 
-// A run: 8 cells that stand one behind another.
-fn run(dst: &mut [f64], at: usize, src: &[f64], from: usize)
-    requires { (at + 8 ≤ length dst.old) × (from + 8 ≤ length src.now) }
-    ensures { dst.new ≡ stored dst.old at src.now from 8 }
+// Cells that stand one behind another, from a place on.
+fn store(dst: &mut [f64], at: usize, cells: &[f64])
+    requires { at + length cells.now ≤ length dst.old }
+    ensures { dst.new ≡ stored dst.old at cells.now 0 (length cells.now) }
 {
-    let mut i = 0;
-    while i < 8 {
-        dst[at + i] = src[from + i];
-        i += 1;
-    }
+    dst[at..at + cells.len()].copy_from_slice(cells);
 }
 
-// The cells from a column on, one by one.
-fn rest(dst: &mut [f64], src: &[f64], from: usize)
-    requires { (from ≤ length src.now) × ((c : ℕ) → c < length src.now → run_at c < length dst.old) }
-    ensures { dst.new ≡ laid_runs 0 dst.old src.now from (length src.now - from) }
-{
-    let mut c = from;
-    while c < src.len() {
-        dst[c / 8 * 64 + c % 8] = src[c];
-        c += 1;
-    }
-}
-
-// A table row stands in runs, 64 places apart, of which the last may be cut short.
+// A table row stands in runs of 8, 64 places apart, of which the last may be cut short.
 fn emit(dst: &mut [f64], src: &[f64])
     requires { (c : ℕ) → c < length src.now → run_at c < length dst.old }
     ensures { dst.new ≡ laid_runs 0 dst.old src.now 0 (length src.now) }
 {
-    let whole = src.len() / 8 * 8;
-    let mut c = 0;
-    while c < whole {
-        run(dst, c * 8, src, c);
-        c += 8;
+    let (runs, rest) = src.as_chunks::<8>();
+    for (k, run) in runs.iter().enumerate() {
+        store(dst, k * 64, run);
     }
-    rest(dst, src, whole);
+    if !rest.is_empty() {
+        store(dst, runs.len() * 64, rest);
+    }
 }
 
 // A row is written over the cells of a table row: the table is lent from the first of them on.
