@@ -1,21 +1,37 @@
 -- A row written in runs of 8 is the row laid over its table row. Assumes nothing.
-use mathlib.Core.Path.{◌≡◌, refl, ap, ◌∙◌}
+use mathlib.Core.Path.{◌≡◌, refl, sym, ap, ◌∙◌}
 use mathlib.Core.Bool.{Bool, true, false, cond, ◌&&◌, and-false}
-use mathlib.Core.List.{List, ◌++◌, append-nil}
+use mathlib.Core.List.{List, [], ◌++◌, append-nil}
 use Prim.Native.Nat.{ℕ, zero, suc, ◌+◌, ◌-◌, ◌*◌, ◌/◌, ◌%◌, ◌≤◌, ◌<◌}
-use native.Mathlib.Nat.{add-zero, zero-add}
+use native.Mathlib.Nat.{add-zero, zero-add, zero-mul, suc-mul}
+use native.Mathlib.Numerals.{add-one}
 use native.Mathlib.Omega.{arith}
 use borrow.Author.Tests.{eqb-true, leb-true, leb-false, lt-ltb, le-ltb}
 use lib.Dec.{eqb, leb, ltb}
 use lib.ListN.{length, take, drop, set, get_or, length-take, length-drop, drop_of_length-le, take-append-drop}
-use lib.Seq.{take_all, take-set-le, drop-set-add}
+use lib.Seq.{take_all, take-set-le, drop-set-add, get_or-take, get_or-drop, length-take-le}
 use lib.Ieee.{Float, nan}
+use Rattle.std.proofs.lemmas.List.{set-append_right}
+use Rattle.std.specs.Simd.{first_chunks}
 use Rattle.layout.specs.Place.{blocks_over, cell_at, run_at, payload_length, corner, in_blocks}
 use Rattle.layout.specs.Written.{laid_row}
-use Rattle.layout.proofs.Entries.{below_suc}
+use Rattle.layout.proofs.Entries.{below_suc, copied, copy_turn}
 use Rattle.layout.proofs.Places.{cell_in_row, cell_inside, line_inside}
 use Rattle.layout.proofs.Blocks.{blocks_are, blocks_same, set_blocks}
 use Rattle.builder.specs.private.Runs.{laid_runs, stored}
+
+-- the cells of a row's chunks
+chunk_cell : (n count k i : ℕ) (xs : List Float) → k < count → i < n → get_or (get_or (first_chunks n count xs) k []) i nan ≡ get_or xs (k * n + i) nan
+chunk_cell n zero k i xs h l = absurd (omega arith)
+chunk_cell n (suc m) zero i xs h l = get_or-take n xs i nan l ∙ rw (zero-mul n, zero-add i)
+chunk_cell n (suc m) (suc k) i xs h l =
+    let e : n + (k * n + i) ≡ suc k * n + i = omega (arith, suc-mul k n) in
+    chunk_cell n m k i (drop n xs) (omega arith) l ∙ get_or-drop n xs (k * n + i) nan ∙ ap (λ (j : ℕ). get_or xs j nan) e
+
+chunk_length : (n count k : ℕ) (xs : List Float) → k < count → count * n ≤ length xs → length (get_or (first_chunks n count xs) k []) ≡ n
+chunk_length n zero k xs h l = absurd (omega arith)
+chunk_length n (suc m) zero xs h l = length-take-le n xs (omega (arith, suc-mul m n))
+chunk_length n (suc m) (suc k) xs h l = chunk_length n m k (drop n xs) (omega arith) (rw (length-drop n xs) (omega (arith, suc-mul m n)))
 
 module _ (row : List Float) where
   -- ---- runs one after another
@@ -58,6 +74,31 @@ module _ (row : List Float) where
       let whole : set (take at t ++ part) (at + n) y ≡ take at t ++ copied (drop at t) row (n + 1)
       = rw (set-append_right (take at t) part at (at + n) y (length-take-le at t (omega arith)) (omega arith), off, turn) in
       sym (rw (add-one n) at whole) ∙ rw (spliced t at n (omega arith) (omega arith), zero-add n)
+
+  pub stored_whole : (t : List Float) (at : ℕ) → at + length row ≤ length t → take at t ++ (row ++ drop (length row) (drop at t)) ≡ stored t at row 0 (length row)
+  stored_whole t at h = rw (take_all (length row) row (omega arith)) at (spliced t at (length row) h (omega arith))
+
+  -- the kth of the whole runs, and the rest of the row
+  abbrev pub whole_runs : List (List Float)
+  whole_runs = first_chunks 8 (length row / 8) row
+
+  pub run_length : (k : ℕ) → k < length row / 8 → length (get_or whole_runs k []) ≡ 8
+  run_length k h = chunk_length 8 (length row / 8) k row h (omega arith)
+
+  pub run_laid : (t : List Float) (k : ℕ) → k < length row / 8
+      → stored (laid_runs 0 t row 0 (k * 8)) (k * 64) (get_or whole_runs k []) 0 (length (get_or whole_runs k [])) ≡ laid_runs 0 t row 0 ((k + 1) * 8)
+  run_laid t k h =
+      let next : (k + 1) * 8 ≡ k * 8 + 8 = omega arith in
+      rw (run_length k h, next)
+      (laid_turn t (get_or whole_runs k []) k 8 (omega arith) (λ i l. chunk_cell 8 (length row / 8) k i row h l))
+
+  pub rest_laid : (t : List Float) (k : ℕ) → k ≡ length row / 8
+      → stored (laid_runs 0 t row 0 (k * 8)) (k * 64) (drop (k * 8) row) 0 (length (drop (k * 8) row)) ≡ laid_runs 0 t row 0 (length row)
+  rest_laid t k e =
+      let all : length row ≡ k * 8 + (length row - k * 8) = omega arith in
+      rw (length-drop (k * 8) row)
+      (laid_turn t (drop (k * 8) row) k (length row - k * 8) (omega arith) (λ i l. get_or-drop (k * 8) row i nan)
+      ∙ ap (λ (n : ℕ). laid_runs 0 t row 0 n) (sym all))
 
   -- ---- the part of a table from a start on, lent to be written, and the table
 
@@ -106,14 +147,6 @@ up_to c w = go (leb c w) refl
 pub part_fits : (k r n m : ℕ) → 0 < r → r ≤ 8 → k * 8 + r ≤ n → ((c : ℕ) → c < n → run_at c < m) → k * 64 + r ≤ m
 unfolding run_at
 part_fits k r n m some few h inside = let last = inside (k * 8 + r - 1) (omega arith) in omega (arith, last)
-
--- the cells of a row's chunks
-pub chunk_cell : (n count k i : ℕ) (xs : List Float) → k < count → i < n → get_or (get_or (first_chunks n count xs) k []) i nan ≡ get_or xs (k * n + i) nan
-chunk_cell n zero k i xs h l = absurd (omega arith)
-chunk_cell n (suc m) zero i xs h l = get_or-take n xs i nan l ∙ rw (zero-mul n, zero-add i)
-chunk_cell n (suc m) (suc k) i xs h l =
-    let e : n + (k * n + i) ≡ suc k * n + i = omega (arith, suc-mul k n) in
-    chunk_cell n m k i (drop n xs) (omega arith) l ∙ get_or-drop n xs (k * n + i) nan ∙ ap (λ (j : ℕ). get_or xs j nan) e
 
 -- the row laid over its table row
 pub laid_row_lem : (w at start : ℕ) (cells row : List Float) → start ≡ cell_at w at 0 → length row ≡ suc w

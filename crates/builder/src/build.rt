@@ -6,7 +6,7 @@ ghost use Rattle.builder.specs.Lent.{buffers_lent, buffers_shown, SameReferences
 
 use crate::checks::check_lengths;
 use crate::{Builder, BuiltTable, Lengths, Lent};
-use decimation::{Decimation, DecimationAnswer};
+use decimation::Decimation;
 use grid::Grid;
 use raster::CellTallies;
 use refusal::Refusal;
@@ -16,9 +16,7 @@ impl Builder {
     fn begin(source: Grid, factor: u32, nodata: u32, lengths: Lengths) -> Result<Builder, Refusal>
         ensures { outcome_of result ≡ outcome (start_refusal source factor lengths) (first_builder source factor nodata) }
     {
-        let DecimationAnswer::Made(decimation) = Decimation::new(source, factor) else {
-            return Err(Refusal::EmptyGrid);
-        };
+        let decimation = Decimation::new(source, factor)?;
         check_lengths(decimation, lengths)?;
         Ok(Builder {
             decimation,
