@@ -1,6 +1,6 @@
 -- What the checks of the builder's calls give. Assumes nothing.
 use mathlib.Core.Path.{◌≡◌, refl, sym, ◌∙◌}
-use mathlib.Core.Bool.{true, false, not, and-false}
+use mathlib.Core.Bool.{Bool, true, false, not, and-false}
 use mathlib.Core.List.{List}
 use Prim.Native.Nat.{ℕ, zero, suc, ◌*◌, ◌≤◌, ◌<◌}
 use native.Mathlib.Nat.{suc-mul, zero-mul, mul-le-mul}
@@ -10,8 +10,9 @@ use borrow.Author.Tests.{eqb-true, eqb-false, leb-true, ltb-false, eq-eqb, ne_eq
 use lib.Dec.{eqb, leb, ltb}
 use lib.ListN.{length}
 use Rattle.refusal.proofs.Tests.{both, neither}
-use Rattle.refusal.proofs.Chains.{first_passed}
-use Rattle.refusal.specs.Refusal.{first, passed, unless_refused, not_its_makers, wrong_table_length, wrong_accumulator_length}
+use Rattle.refusal.proofs.Chains.{first_passed, number_not_0}
+use Rattle.refusal.specs.declared.Refusal.{Refusal}
+use Rattle.refusal.specs.Refusal.{first, passed, unless_refused, number_of, not_its_makers, wrong_table_length, wrong_accumulator_length}
 use Rattle.refusal.specs.Refusal.{wrong_coarse_length, row_after_last, wrong_row_length, finish_before_last}
 use Rattle.raster.specs.Raster.{cells_of, row_tallies}
 use Rattle.raster.proofs.Tallies.{cells_of_row, cells_of_sum}
@@ -88,6 +89,21 @@ module _ (d : Decimation) (lent : Lengths) where
         eq-eqb lent.coarse (suc d.grid.width) l.coarse,
       )
 
+  -- what they are refused with comes ahead of the checks after them, which are looked at where the lengths are right
+  pub lent_ahead : (rest : ℕ) (r : Refusal) → number_of r ≡ lent_refusal d lent passed → number_of r ≡ lent_refusal d lent rest
+  unfolding lent_refusal
+  lent_ahead rest r e = go (off_table d lent) (off_rows d lent) (off_coarse d lent) e
+    where
+      go : (a b c : Bool) → number_of r ≡ first a wrong_table_length (first b wrong_accumulator_length (first c wrong_coarse_length passed))
+          → number_of r ≡ first a wrong_table_length (first b wrong_accumulator_length (first c wrong_coarse_length rest))
+      go true b c e = e
+      go false true c e = e
+      go false false true e = e
+      go false false false e = absurd (number_not_0 r e)
+
+  pub lent_past : (rest : ℕ) → passed ≡ lent_refusal d lent passed → lent_refusal d lent rest ≡ rest
+  lent_past rest e = lent_goes_on rest (lent_passed passed (sym e)).0
+
 -- ---- a call that is not refused
 
 -- a row call
@@ -121,6 +137,13 @@ finish_passed b m e =
     let r = first_passed (ltb b.rows b.decimation.source.height) finish_before_last _ tt q.1 in
     let v = not-false (valid_builder b) p.0 in
     record { valid = v; lengths = q.0; rows = omega (arith, (standing b v).rows, ltb-false b.rows b.decimation.source.height r.0) }
+
+-- the total is in the accumulator
+pub total_inside : (b : Builder) (lent : Lengths) → passed ≡ finish_refusal b lent → b.decimation.source.width < lent.acc
+unfolding finish_refusal
+total_inside b lent e =
+    let p = first_passed (not (valid_builder b)) not_its_makers _ tt (sym e) in
+    omega (arith, (lent_passed b.decimation lent _ p.1).0.acc)
 
 -- a start
 pub record Begun (g : Grid) (k : ℕ) (m : Buffers) : Type 0 where

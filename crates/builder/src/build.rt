@@ -13,6 +13,7 @@ use refusal::Refusal;
 
 impl Builder {
     // What a start gives, by the lengths of what it is lent.
+    #[tactic(auto, using(crate::proofs::Calls::begin_barred, crate::proofs::Calls::begin_refused, crate::proofs::Calls::begun, crate::proofs::Calls::made_valid))]
     fn begin(source: Grid, factor: u32, nodata: u32, lengths: Lengths) -> Result<Builder, Refusal>
         ensures { outcome_of result ≡ outcome (start_refusal source factor lengths) (first_builder source factor nodata) }
     {
@@ -28,6 +29,7 @@ impl Builder {
     }
 
     // What is not zeroed here is not read before a row is laid over it.
+    #[tactic(auto, using(crate::proofs::Calls::left_refused, refusal::proofs::Chains::answered_passed), unfolding(crate::specs::Build::start_call, crate::specs::Build::first_builder, crate::specs::Build::cleared_buffers))]
     pub fn start(
         source: Grid,
         factor: u32,
@@ -45,6 +47,7 @@ impl Builder {
         Ok(begun)
     }
 
+    #[tactic(auto, using(refusal::proofs::Chains::refused_as, refusal::proofs::Chains::left_as), unfolding(crate::specs::Build::row_call, crate::specs::Build::row_left))]
     pub fn row(self, row: &mut [u32], lent: &mut Lent<&mut [f64]>) -> Result<Builder, Refusal>
         ensures answer { outcome_of result ≡ (row_call self row.old (buffers_lent lent.old)).answer }
         ensures row_left { row.new ≡ row_left self row.old (buffers_lent lent.old) }
@@ -52,8 +55,9 @@ impl Builder {
         ensures same_references { SameReferences lent.old lent.new }
     {
         self.check_row(row.len(), lent.read().lengths())?;
-        let swept = sweep::sweep_row(lent.acc, lent.corr, row, self.nodata, self.digest);
-        self.hand_on(lent.acc, lent.coarse, lent.table);
+        let acc = &mut *lent.acc;
+        let swept = sweep::sweep_row(acc, lent.corr, row, self.nodata, self.digest);
+        self.hand_on(acc, lent.coarse, lent.table);
         Ok(Builder {
             rows: self.rows + 1,
             digest: swept.digest,
@@ -62,6 +66,7 @@ impl Builder {
         })
     }
 
+    #[tactic(auto, using(refusal::proofs::Chains::refused_as, crate::proofs::Builders::total_inside), unfolding(crate::specs::Build::finish_call, crate::specs::Build::built_table))]
     pub fn finish(self, lent: Lent<&[f64]>) -> Result<BuiltTable, Refusal>
         ensures { outcome_of result ≡ finish_call self (buffers_shown lent.entry) }
     {

@@ -9,6 +9,7 @@ use decimation::Decimation;
 use refusal::{Refusal, refuse_if};
 
 // 11, 29, 30.
+#[tactic(auto, using(layout::proofs::Places::length_held, decimation::proofs::Factors::framed), unfolding(crate::specs::Build::lent_refusal))]
 pub(crate) fn check_lengths(d: Decimation, lengths: Lengths) -> Result<(), Refusal>
     requires { valid_decimation d ≡ true }
     ensures { number_in result ≡ lent_refusal d lengths passed }
@@ -25,6 +26,7 @@ pub(crate) fn check_lengths(d: Decimation, lengths: Lengths) -> Result<(), Refus
 
 impl Builder {
     // Whether a start or a row call could have given it.
+    #[tactic(auto, using(crate::proofs::Builders::few_cells, raster::proofs::Tallies::total_is, decimation::proofs::Factors::framed), unfolding(crate::specs::Build::valid_builder))]
     fn is_valid(self) -> bool
         ensures { result ≡ valid_builder self }
     {
@@ -39,6 +41,7 @@ impl Builder {
     }
 
     // The checks of a row call: 22, 11, 29, 30, 13, 12.
+    #[tactic(auto, using(crate::proofs::Builders::lent_ahead, crate::proofs::Builders::lent_past, crate::proofs::Builders::standing), unfolding(crate::specs::Build::row_refusal))]
     pub(crate) fn check_row(self, row: usize, lengths: Lengths) -> Result<(), Refusal>
         ensures { number_in result ≡ row_refusal self row lengths }
     {
@@ -52,6 +55,7 @@ impl Builder {
     }
 
     // The checks of a finish: 22, 11, 29, 30, 14.
+    #[tactic(auto, using(crate::proofs::Builders::lent_ahead, crate::proofs::Builders::lent_past, crate::proofs::Builders::standing), unfolding(crate::specs::Build::finish_refusal))]
     pub(crate) fn check_finish(self, lengths: Lengths) -> Result<(), Refusal>
         ensures { number_in result ≡ finish_refusal self lengths }
     {

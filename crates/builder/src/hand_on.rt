@@ -11,6 +11,7 @@ use crate::Builder;
 use grid::Grid;
 
 // The coarse row takes every factor-th entry of the accumulator; at factor 1 it is not written.
+#[tactic(auto, using(layout::proofs::Entries::entries_turn, layout::proofs::Entries::entries_end, crate::proofs::HandedRows::sample_in), unfolding(crate::specs::Rows::coarse_filled))]
 fn fill_coarse(coarse: &mut [f64], acc: &[f64], factor: usize)
     requires { length coarse.old * factor < length acc.now + factor }
     ensures { coarse.new ≡ coarse_filled acc.now coarse.old factor }
