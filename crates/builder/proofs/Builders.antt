@@ -1,10 +1,10 @@
 -- What the checks of the builder's calls give. Assumes nothing.
 use mathlib.Core.Path.{◌≡◌, refl, sym, ◌∙◌}
-use mathlib.Core.Bool.{Bool, true, false, not, and-false}
+use mathlib.Core.Bool.{Bool, true, false, not, ◌||◌, and-false}
 use mathlib.Core.List.{List}
-use Prim.Native.Nat.{ℕ, zero, suc, ◌*◌, ◌≤◌, ◌<◌}
+use Prim.Native.Nat.{ℕ, zero, suc, min, ◌+◌, ◌*◌, ◌≤◌, ◌<◌}
 use native.Mathlib.Nat.{suc-mul, zero-mul, mul-le-mul}
-use native.Mathlib.Numerals.{lt_of_le_of_ne}
+use native.Mathlib.Numerals.{add-one, lt_of_le_of_ne}
 use native.Mathlib.Omega.{arith}
 use borrow.Author.Tests.{eqb-true, eqb-false, leb-true, ltb-false, eq-eqb, ne_eqb, le-leb, lt-leb, le-ltb, not-false}
 use lib.Dec.{eqb, leb, ltb}
@@ -19,6 +19,7 @@ use Rattle.raster.proofs.Tallies.{cells_of_row, cells_of_sum}
 use Rattle.grid.specs.declared.Grid.{Grid}
 use Rattle.grid.specs.Grid.{limit, valid_grid}
 use Rattle.layout.specs.Place.{payload_length}
+use Rattle.layout.proofs.Places.{length_held}
 use Rattle.decimation.specs.declared.Decimation.{Decimation}
 use Rattle.decimation.specs.Decimation.{factor_refusal, decimation_of, valid_decimation}
 use Rattle.decimation.proofs.Factors.{Framed, framed, decimation_valid}
@@ -88,6 +89,16 @@ module _ (d : Decimation) (lent : Lengths) where
         eq-eqb lent.corr (suc d.source.width) l.corr,
         eq-eqb lent.coarse (suc d.grid.width) l.coarse,
       )
+
+  -- as the code works the lengths out
+  pub lent_read : valid_decimation d ≡ true → lent_refusal d lent passed
+      ≡ first (not (eqb lent.table (min (payload_length d.grid.width d.grid.height) 0xffff_ffff_ffff_ffff))) wrong_table_length
+      (first (not (eqb lent.acc (d.source.width + 1)) || not (eqb lent.corr (d.source.width + 1))) wrong_accumulator_length
+      (first (not (eqb lent.coarse (d.grid.width + 1))) wrong_coarse_length passed))
+  unfolding lent_refusal
+  lent_read v =
+      let f = framed d v in
+      rw (length_held d.grid.width d.grid.height f.few_columns f.few_lines, add-one d.source.width, add-one d.grid.width)
 
   -- what they are refused with comes ahead of the checks after them, which are looked at where the lengths are right
   pub lent_ahead : (rest : ℕ) (r : Refusal) → number_of r ≡ lent_refusal d lent passed → number_of r ≡ lent_refusal d lent rest

@@ -9,7 +9,7 @@ use decimation::Decimation;
 use refusal::{Refusal, refuse_if};
 
 // 11, 29, 30.
-#[tactic(auto, using(layout::proofs::Places::length_held, decimation::proofs::Factors::framed), unfolding(crate::specs::Build::lent_refusal))]
+#[tactic(auto, using(crate::proofs::Builders::lent_read))]
 pub(crate) fn check_lengths(d: Decimation, lengths: Lengths) -> Result<(), Refusal>
     requires { valid_decimation d ≡ true }
     ensures { number_in result ≡ lent_refusal d lengths passed }
