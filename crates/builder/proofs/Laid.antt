@@ -13,11 +13,13 @@ use lib.Seq.{take_all, take-set-le, drop-set-add, get_or-take, get_or-drop, leng
 use lib.Ieee.{Float, nan}
 use Rattle.std.proofs.lemmas.List.{set-append_right}
 use Rattle.std.specs.Simd.{first_chunks}
+use Rattle.grid.specs.declared.Grid.{Grid}
 use Rattle.layout.specs.Place.{blocks_over, cell_at, run_at, payload_length, corner, in_blocks}
 use Rattle.layout.specs.Written.{laid_row}
 use Rattle.layout.proofs.Entries.{below_suc, copied, copy_turn}
 use Rattle.layout.proofs.Places.{cell_in_row, cell_inside, line_inside}
 use Rattle.layout.proofs.Blocks.{blocks_are, blocks_same, set_blocks}
+use Rattle.builder.specs.private.Room.{RowRoom}
 use Rattle.builder.specs.private.Runs.{laid_runs, stored}
 
 -- the cells of a row's chunks
@@ -168,5 +170,6 @@ pub run_inside : (w h at start c : ℕ) (cells : List Float) → start ≡ cell_
 run_inside w h at start c cells e right inside k =
     rw (length-take, length-drop) (omega (arith, cell_in_row w at c, cell_inside w h at c inside (omega arith)))
 
-pub start_inside : (w h at start : ℕ) → start ≡ cell_at w at 0 → at ≤ h → start < payload_length w h
-start_inside w h at start e inside = rw e (cell_inside w h at 0 inside (omega arith))
+-- and its first cell too
+pub starts_inside : (g : Grid) (at n t start : ℕ) → RowRoom g at n t → start ≡ cell_at g.width at 0 → start < t
+starts_inside g at n t start r e = rw (e, r.table) (cell_inside g.width g.height at 0 r.inside (omega arith))

@@ -25,6 +25,7 @@ fn fill_coarse(coarse: &mut [f64], acc: &[f64], factor: usize)
 
 // The row handed on: the accumulator itself at factor 1, else the coarse row. A prefix sum over blocks and one over
 // cells agree at every block's corner, so nothing is summed again.
+#[tactic(auto, unfolding(crate::specs::Rows::handed_on))]
 fn decimated<'a>(acc: &'a [f64], coarse: &'a [f64], factor: usize, n: usize) -> &'a [f64]
     requires { (n ≤ length acc.now) × (n ≤ length coarse.now) }
     ensures { result.now ≡ handed_on acc.now coarse.now factor n }
@@ -36,6 +37,7 @@ fn decimated<'a>(acc: &'a [f64], coarse: &'a [f64], factor: usize, n: usize) -> 
 }
 
 // Cells that stand one behind another, from a place on.
+#[tactic(auto, using(crate::proofs::Laid::stored_whole))]
 fn store(dst: &mut [f64], at: usize, cells: &[f64])
     requires { at + length cells.now ≤ length dst.old }
     ensures { dst.new ≡ stored dst.old at cells.now 0 (length cells.now) }
@@ -58,6 +60,7 @@ fn emit(dst: &mut [f64], src: &[f64])
 }
 
 // A row is written over the cells of a table row: the table is lent from the first of them on.
+#[tactic(auto, using(crate::proofs::Laid::laid_row_lem, crate::proofs::Laid::run_inside))]
 pub(crate) fn lay(table: &mut [f64], grid: Grid, at: u32, row: &[f64])
     requires { RowRoom grid at (length row.now) (length table.old) }
     ensures { table.new ≡ laid_row grid.width table.old at row.now }
@@ -68,6 +71,7 @@ pub(crate) fn lay(table: &mut [f64], grid: Grid, at: u32, row: &[f64])
 
 impl Builder {
     // The factor divides the height, so the last row always completes a table row: no block is left part filled.
+    #[tactic(auto, using(decimation::proofs::Factors::framed, crate::proofs::HandedRows::length_coarse_filled, crate::proofs::Kept::samples, crate::proofs::Kept::acc_wide, crate::proofs::Kept::coarse_wide))]
     pub(crate) fn hand_on(self, acc: &[f64], coarse: &mut [f64], table: &mut [f64])
         requires { (Room self.decimation (length acc.now) (length coarse.old) (length table.old))
             × (self.rows < self.decimation.source.height) }
