@@ -1,12 +1,12 @@
 -- What the checks of the builder's calls give. Assumes nothing.
 use mathlib.Core.Path.{◌≡◌, refl, sym, ◌∙◌}
-use mathlib.Core.Bool.{Bool, true, false, not, ◌||◌, and-false}
+use mathlib.Core.Bool.{Bool, true, false, not, ◌||◌}
 use mathlib.Core.List.{List}
 use Prim.Native.Nat.{ℕ, zero, suc, min, ◌+◌, ◌*◌, ◌≤◌, ◌<◌}
 use native.Mathlib.Nat.{suc-mul, zero-mul, mul-le-mul}
 use native.Mathlib.Numerals.{add-one, lt_of_le_of_ne}
 use native.Mathlib.Omega.{arith}
-use borrow.Author.Tests.{eqb-true, eqb-false, leb-true, ltb-false, eq-eqb, ne_eqb, le-leb, lt-leb, le-ltb, not-false}
+use borrow.Author.Tests.{eqb-true, eqb-false, leb-true, ltb-false, eq-eqb, ne_eqb, le-leb, le-ltb, not-false}
 use lib.Dec.{eqb, leb, ltb}
 use lib.ListN.{length}
 use Rattle.refusal.proofs.Tests.{both, neither}
@@ -43,15 +43,11 @@ standing b e =
     let q = both (valid_decimation b.decimation) (leb b.rows b.decimation.source.height) p.0 in
     record { made = q.0; rows = leb-true _ _ q.1; tallied = eqb-true _ _ p.1 }
 
--- the test of a builder whose decimation and rows are right, and of one with too many rows
+-- the test of a builder whose decimation and rows are right
 pub valid_so_far : (b : Builder) → valid_decimation b.decimation ≡ true → b.rows ≤ b.decimation.source.height
     → valid_builder b ≡ eqb (cells_of b.tallies) (b.rows * b.decimation.source.width)
 unfolding valid_builder
 valid_so_far b v l = rw (v, le-leb b.rows b.decimation.source.height l)
-
-pub rows_over : (b : Builder) → b.decimation.source.height < b.rows → valid_builder b ≡ false
-unfolding valid_builder
-rows_over b h = rw (lt-leb b.rows b.decimation.source.height h, and-false)
 
 pub builder_framed : (b : Builder) → valid_builder b ≡ true → Framed b.decimation
 builder_framed b e = framed b.decimation (standing b e).made

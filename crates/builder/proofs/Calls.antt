@@ -2,23 +2,21 @@
 use mathlib.Core.Path.{◌≡◌, refl, sym, ap, ◌∙◌}
 use mathlib.Core.Bool.{Bool, true, false, not}
 use mathlib.Core.List.{List}
-use Prim.Native.Nat.{ℕ, zero, suc, ◌+◌, ◌/◌, ◌%◌, ◌<◌}
+use Prim.Native.Nat.{ℕ, zero, suc, ◌+◌, ◌/◌, ◌%◌}
 use native.Mathlib.Numerals.{add-one}
-use native.Mathlib.Omega.{arith}
 use borrow.Author.Tests.{eq-eqb, ne_eqb}
 use lib.Dec.{eqb}
-use lib.ListN.{length, replicate}
+use lib.ListN.{length}
 use lib.Ieee.{Float}
 use Rattle.refusal.proofs.Chains.{never, refused_as}
 use Rattle.refusal.specs.declared.Refusal.{Refusal}
-use Rattle.refusal.specs.Refusal.{Outcome, answered, refused, first, passed, outcome, unless_refused, not_its_makers, number_of}
-use Rattle.float.specs.Float.{f64zero}
+use Rattle.refusal.specs.Refusal.{answered, refused, first, passed, outcome, unless_refused, not_its_makers, number_of}
 use Rattle.digest.specs.Digest.{first_digest, digest_of}
 use Rattle.raster.specs.declared.CellTallies.{CellTallies}
 use Rattle.raster.specs.Raster.{sanitised_row, row_tallies, plus_tallies, held_tallies, no_tallies}
 use Rattle.grid.specs.declared.Grid.{Grid}
 use Rattle.grid.specs.Grid.{valid_grid}
-use Rattle.layout.specs.Written.{cleared_table, laid_row}
+use Rattle.layout.specs.Written.{laid_row}
 use Rattle.decimation.specs.declared.Decimation.{Decimation}
 use Rattle.decimation.specs.Decimation.{factor_refusal, decimation_new, valid_decimation}
 use Rattle.decimation.proofs.Factors.{Made, decimation_made}
@@ -26,9 +24,9 @@ use Rattle.sweep.specs.Sweep.{acc_after, corr_after}
 use Rattle.builder.specs.declared.Builder.{Builder}
 use Rattle.builder.specs.declared.Lengths.{Lengths}
 use Rattle.builder.specs.Rows.{coarse_filled, handed_on}
-use Rattle.builder.specs.Build.{Buffers, buffers, lengths_of, lent_refusal, start_refusal, first_builder, cleared_buffers, start_call, row_refusal}
-use Rattle.builder.specs.Build.{builder_after, coarse_after, table_after, buffers_after, row_call, row_left, finish_refusal, built_table, finish_call}
-use Rattle.builder.proofs.Builders.{start_goes_on, finish_passed, row_passed}
+use Rattle.builder.specs.Build.{Buffers, buffers, lengths_of, lent_refusal, start_refusal, first_builder, row_refusal}
+use Rattle.builder.specs.Build.{builder_after, coarse_after, table_after, buffers_after, row_call, row_left}
+use Rattle.builder.proofs.Builders.{start_goes_on, row_passed}
 use Rattle.builder.proofs.Kept.{tallies_fit}
 
 -- ---- a start

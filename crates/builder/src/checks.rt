@@ -26,18 +26,13 @@ pub(crate) fn check_lengths(d: Decimation, lengths: Lengths) -> Result<(), Refus
 
 impl Builder {
     // Whether a start or a row call could have given it.
-    #[tactic(auto, using(crate::proofs::Builders::few_cells, raster::proofs::Tallies::total_is, decimation::proofs::Factors::framed), unfolding(crate::specs::Build::valid_builder))]
+    #[tactic(auto, using(raster::proofs::Tallies::total_is), unfolding(crate::specs::Build::valid_builder))]
     fn is_valid(self) -> bool
         ensures { result ≡ valid_builder self }
     {
         let d = self.decimation;
-        if !d.is_valid() {
-            return false;
-        }
-        if self.rows > d.source.height {
-            return false;
-        }
-        self.tallies.total() == self.rows as u64 * d.source.width as u64
+        let cells = self.rows as u64 * d.source.width as u64;
+        d.is_valid() && self.rows <= d.source.height && self.tallies.total() == cells
     }
 
     // The checks of a row call: 22, 11, 29, 30, 13, 12.

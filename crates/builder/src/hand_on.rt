@@ -54,6 +54,7 @@ fn emit(dst: &mut [f64], src: &[f64])
     for (k, run) in runs.iter().enumerate() {
         store(dst, k * 64, run);
     }
+    // Where no cell is left, there may be no place left either.
     if !rest.is_empty() {
         store(dst, runs.len() * 64, rest);
     }

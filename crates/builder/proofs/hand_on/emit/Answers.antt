@@ -1,7 +1,7 @@
 -- `builder::hand_on::emit` meets its contract.
 -- Assumes nothing.
 use mathlib.Core.Path.{◌≡◌}
-use Prim.Native.Nat.{◌/◌, ◌<◌, ◌*◌}
+use Prim.Native.Nat.{◌/◌, ◌<◌}
 use native.Mathlib.Omega.{arith}
 use lib.ListN.{length}
 use Rattle.builder.proofs.Laid.{part_fits, run_length, run_laid, rest_laid}

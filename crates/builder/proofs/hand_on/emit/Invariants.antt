@@ -2,7 +2,6 @@
 -- Assumes nothing.
 use mathlib.Core.Path.{◌≡◌}
 use Prim.Native.Nat.{◌*◌}
-use lib.ListN.{length}
 use Rattle.builder.specs.private.Runs.{laid_runs}
 use Rattle.builder.proofs.hand_on.emit.Given as goal
 
