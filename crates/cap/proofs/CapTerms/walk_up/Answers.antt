@@ -15,7 +15,7 @@ loop-h-preserved c =
     let t = climb_turn (contained_by a.self a.row) a.self.closing c.loop-h.h in
     (omega arith, t c.if-self-h.false (sym c.contains.ensures ∙ c.if-not-contains.false) ∙ c.loop-h.invariant.1)
 
-pub returns-then-self-h : goal.returns-then-cap-h
+pub returns-then-self-h : goal.returns-then-self-h
 returns-then-self-h c =
     let a = c.args in
     climb_end (contained_by a.self a.row) a.self.closing c.loop-h.h c.if-self-h.true ∙ c.loop-h.invariant.1
