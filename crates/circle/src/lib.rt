@@ -66,7 +66,7 @@ impl<'a> Circle<'a> {
         let mut people = 0.0;
         for (i, h) in widths.iter().enumerate() {
             let row = Row(north + i as u32);
-            people = people + self.row_sum(closing, row, *h);
+            people += self.row_sum(closing, row, *h);
         }
         people
     }

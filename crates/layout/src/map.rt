@@ -39,7 +39,7 @@ fn padded(grid: Grid, rows: &[f64], cell: TableCell) -> f64
     0.0
 }
 
-// (d) not one function with `fill_rows`: order and source both differ, that is all but the loop's head.
+// (d) not one function with `fill_rows`: they differ in the order, the source and what is past the edge, and share a `for`.
 fn fill_blocks(grid: Grid, rows: &[f64], blocks: &mut [f64])
     requires { Sized grid (length rows.now) (length blocks.old) }
     ensures { blocks.new ≡ to_blocks grid.width grid.height rows.now }

@@ -5,7 +5,7 @@ ghost use Rattle.layout.specs.Rows.{row_cell_at};
 
 use crate::TableCell;
 
-// (d) not an iterator beside the places written: of what a zip with `iter_mut` writes a proof knows nothing.
+// (c) not an iterator beside the places: in a loop over a zip with `iter_mut` no proof can name the slice that is written.
 impl TableCell {
     // The cell at the place behind it: the next of its run of 8, the run below it, the next block, the next row of blocks.
     pub(crate) fn next(self, width: u32) -> TableCell
