@@ -24,8 +24,7 @@ use Rattle.decimation.specs.declared.Decimation.{Decimation}
 use Rattle.decimation.specs.Decimation.{factor_refusal, decimation_of, valid_decimation}
 use Rattle.decimation.proofs.Factors.{Framed, framed, decimation_valid}
 use Rattle.builder.specs.declared.Builder.{Builder}
-use Rattle.builder.specs.declared.Lengths.{Lengths}
-use Rattle.builder.specs.Build.{Buffers, lengths_of, off_table, off_rows, off_coarse, lent_refusal, valid_builder}
+use Rattle.builder.specs.Build.{Lengths, Buffers, lengths_of, off_table, off_rows, off_coarse, lent_refusal, valid_builder}
 use Rattle.builder.specs.Build.{start_refusal, first_builder, row_refusal, builder_after, finish_refusal}
 use Rattle.builder.specs.private.Room.{Sized}
 

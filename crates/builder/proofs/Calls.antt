@@ -22,9 +22,8 @@ use Rattle.decimation.specs.Decimation.{factor_refusal, decimation_new, valid_de
 use Rattle.decimation.proofs.Factors.{Made, decimation_made}
 use Rattle.sweep.specs.Sweep.{acc_after, corr_after}
 use Rattle.builder.specs.declared.Builder.{Builder}
-use Rattle.builder.specs.declared.Lengths.{Lengths}
 use Rattle.builder.specs.Rows.{coarse_filled, handed_on}
-use Rattle.builder.specs.Build.{Buffers, buffers, lengths_of, lent_refusal, start_refusal, first_builder, row_refusal}
+use Rattle.builder.specs.Build.{Lengths, Buffers, buffers, lengths_of, lent_refusal, start_refusal, first_builder, row_refusal}
 use Rattle.builder.specs.Build.{builder_after, coarse_after, table_after, buffers_after, row_call, row_left}
 use Rattle.builder.proofs.Builders.{start_goes_on, row_passed}
 use Rattle.builder.proofs.Kept.{tallies_fit}

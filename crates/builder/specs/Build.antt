@@ -17,7 +17,7 @@ use Rattle.sweep.specs.Sweep.{acc_after, corr_after}
 use Rattle.builder.specs.Rows.{coarse_filled, handed_on}
 use Rattle.builder.specs.declared.Builder.{Builder}
 use Rattle.builder.specs.declared.BuiltTable.{BuiltTable}
-use Rattle.builder.specs.declared.Lengths.{Lengths}
+use Rattle.builder.specs.declared.Lent.{Lent}
 
 -- what a builder is lent: accumulator and correction rows, a coarse row, the table
 pub record Buffers : Type 0 where
@@ -28,6 +28,10 @@ pub record Buffers : Type 0 where
 
 abbrev pub buffers : List Float → List Float → List Float → List Float → Buffers
 buffers acc corr coarse table = record { acc = acc; corr = corr; coarse = coarse; table = table }
+
+-- how long each of them is
+abbrev pub Lengths : Type 0
+Lengths = Lent ℕ
 
 abbrev pub lengths_of : Buffers → Lengths
 lengths_of m = record { acc = length m.acc; corr = length m.corr; coarse = length m.coarse; table = length m.table }

@@ -3,7 +3,7 @@ ghost use Rattle.std.specs.Prelude.{◌≡◌};
 ghost use Rattle.builder.specs.Build.{lengths_of};
 ghost use Rattle.builder.specs.Lent.{buffers_lent, buffers_shown};
 
-use crate::{Lengths, Lent};
+use crate::Lent;
 
 impl Lent<&mut [f64]> {
     // The same buffers, to be read.
@@ -20,10 +20,11 @@ impl Lent<&mut [f64]> {
 }
 
 impl Lent<&[f64]> {
-    pub(crate) fn lengths(&self) -> Lengths
+    // How long each is.
+    pub(crate) fn lengths(&self) -> Lent<usize>
         ensures { result ≡ lengths_of (buffers_shown self.now) }
     {
-        Lengths {
+        Lent {
             acc: self.acc.len(),
             corr: self.corr.len(),
             coarse: self.coarse.len(),

@@ -5,7 +5,7 @@ ghost use Rattle.builder.specs.Build.{start_refusal, first_builder, start_call, 
 ghost use Rattle.builder.specs.Lent.{buffers_lent, buffers_shown, SameReferences};
 
 use crate::checks::check_lengths;
-use crate::{Builder, BuiltTable, Lengths, Lent};
+use crate::{Builder, BuiltTable, Lent};
 use decimation::Decimation;
 use grid::Grid;
 use raster::CellTallies;
@@ -14,7 +14,12 @@ use refusal::Refusal;
 impl Builder {
     // What a start gives, by the lengths of what it is lent.
     #[tactic(auto, using(crate::proofs::Calls::begin_barred, crate::proofs::Calls::begin_refused, crate::proofs::Calls::begun, crate::proofs::Calls::made_valid))]
-    fn begin(source: Grid, factor: u32, nodata: u32, lengths: Lengths) -> Result<Builder, Refusal>
+    fn begin(
+        source: Grid,
+        factor: u32,
+        nodata: u32,
+        lengths: Lent<usize>,
+    ) -> Result<Builder, Refusal>
         ensures { outcome_of result ≡ outcome (start_refusal source factor lengths) (first_builder source factor nodata) }
     {
         let decimation = Decimation::new(source, factor)?;

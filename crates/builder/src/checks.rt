@@ -4,13 +4,13 @@ ghost use Rattle.refusal.specs.Refusal.{number_in, passed};
 ghost use Rattle.decimation.specs.Decimation.{valid_decimation};
 ghost use Rattle.builder.specs.Build.{lent_refusal, valid_builder, row_refusal, finish_refusal};
 
-use crate::{Builder, Lengths};
+use crate::{Builder, Lent};
 use decimation::Decimation;
 use refusal::{Refusal, refuse_if};
 
 // 11, 29, 30.
 #[tactic(auto, using(crate::proofs::Builders::lent_read))]
-pub(crate) fn check_lengths(d: Decimation, lengths: Lengths) -> Result<(), Refusal>
+pub(crate) fn check_lengths(d: Decimation, lengths: Lent<usize>) -> Result<(), Refusal>
     requires { valid_decimation d ≡ true }
     ensures { number_in result ≡ lent_refusal d lengths passed }
 {
@@ -37,7 +37,7 @@ impl Builder {
 
     // The checks of a row call: 22, 11, 29, 30, 13, 12.
     #[tactic(auto, using(crate::proofs::Builders::lent_ahead, crate::proofs::Builders::lent_past, crate::proofs::Builders::standing), unfolding(crate::specs::Build::row_refusal))]
-    pub(crate) fn check_row(self, row: usize, lengths: Lengths) -> Result<(), Refusal>
+    pub(crate) fn check_row(self, row: usize, lengths: Lent<usize>) -> Result<(), Refusal>
         ensures { number_in result ≡ row_refusal self row lengths }
     {
         refuse_if(!self.is_valid(), Refusal::NotItsMakers)?;
@@ -51,7 +51,7 @@ impl Builder {
 
     // The checks of a finish: 22, 11, 29, 30, 14.
     #[tactic(auto, using(crate::proofs::Builders::lent_ahead, crate::proofs::Builders::lent_past, crate::proofs::Builders::standing), unfolding(crate::specs::Build::finish_refusal))]
-    pub(crate) fn check_finish(self, lengths: Lengths) -> Result<(), Refusal>
+    pub(crate) fn check_finish(self, lengths: Lent<usize>) -> Result<(), Refusal>
         ensures { number_in result ≡ finish_refusal self lengths }
     {
         refuse_if(!self.is_valid(), Refusal::NotItsMakers)?;

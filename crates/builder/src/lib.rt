@@ -28,8 +28,8 @@ pub struct BuiltTable {
     pub decimation: Decimation,
 }
 
-// The buffers that a call is lent: accumulator and correction rows, a coarse row, the table. A start and a row write
-// them, a finish reads them.
+// What a call is lent: accumulator and correction rows, a coarse row, the table. A start and a row write them, a finish
+// reads them, and the checks look at their lengths.
 // (a) acc and corr stay two rows: at factor 1 the row handed on is the accumulator as it stands, and the C interface lends both.
 #[derive(Drop)]
 pub struct Lent<S> {
@@ -37,13 +37,4 @@ pub struct Lent<S> {
     pub corr: S,
     pub coarse: S,
     pub table: S,
-}
-
-// The lengths of what a call is lent.
-#[derive(Clone, Copy)]
-struct Lengths {
-    acc: usize,
-    corr: usize,
-    coarse: usize,
-    table: usize,
 }

@@ -27,18 +27,12 @@ overflow_add-result c =
     let e : passed ≡ row_refusal a.self (length a.row.now) (lengths_of m) = search rules in
     omega (arith, rows_fit a.self a.row.now m (row_passed a.self a.row.now m (sym e)))
 
-pub returns-clause-answer : goal.returns-clause-answer
-returns-clause-answer c =
+pub returns : goal.returns
+returns c =
     let a = c.args in
     let m = buffers_lent a.lent.now in
     let e : passed ≡ row_refusal a.self (length a.row.now) (lengths_of m) = search rules in
     let s = c.sweep_row-swept.ensures in
-    (row_taken a.self a.row.now m e _ _ _ _ _ _ _ _ s.1 s.4 c.plus.ensures s.0 s.2 s.3 c.hand_on.ensures.0 c.hand_on.ensures.1).0
-
-pub returns-clause-left : goal.returns-clause-left
-returns-clause-left c =
-    let a = c.args in
-    let m = buffers_lent a.lent.now in
-    let e : passed ≡ row_refusal a.self (length a.row.now) (lengths_of m) = search rules in
-    let s = c.sweep_row-swept.ensures in
-    (row_taken a.self a.row.now m e _ _ _ _ _ _ _ _ s.1 s.4 c.plus.ensures s.0 s.2 s.3 c.hand_on.ensures.0 c.hand_on.ensures.1).2
+    let h = c.hand_on.ensures in
+    let t = row_taken a.self a.row.now m e _ _ _ _ _ _ _ _ s.1 s.4 c.plus.ensures s.0 s.2 s.3 h.0 h.1 in
+    record { answer = t.0; row_left = t.1; left = t.2; same_references = search rules }
