@@ -9,7 +9,7 @@ use lib.Dec.{ltb, eqb}
 use lib.Ieee.{binary64}
 use lib.Ieee.Bits.{of_bits-fits}
 use lib.ListN.{length}
-use Rattle.refusal.specs.Refusal.{Outcome, answered, first, passed, outcome, and_then, card_ends_early, card_too_large, sections_overlap}
+use Rattle.refusal.specs.Refusal.{answered, first, passed, outcome, and_then, card_ends_early, card_too_large, sections_overlap}
 use Rattle.refusal.proofs.Chains.{first_passed, answered_passed, went_past, went_on}
 use Rattle.refusal.proofs.Tests.{both}
 use Rattle.sections.specs.Sections.{inside, sections_apart, section_refusal}
@@ -31,14 +31,6 @@ pub never_22 : (card : List ℕ) (g : Grid) (k : ℕ) → grid_new (grid_at card
     → decimation_new g k ≡ outcome (factor_refusal g k) (decimation_of g k)
 unfolding decimation_new grid_at
 never_22 card g k e = rw (made_valid (grid_at card) g (of_bits-fits binary64 (u64_at card 16)) e)
-
--- the checks after a decimation was made
-pub decimation_read : (card : List ℕ) (g : Grid) (d : Decimation) (x : Header) (o : Outcome Header)
-    → decimation_new g (u32_at card 44) ≡ answered d → x ≡ header_at card d → o ≡ with_header card x.decimation.source x → o ≡ with_grid card g
-unfolding header_at
-decimation_read card g d x o e f p =
-    let own : d.source ≡ g = ap (λ (y : Decimation). y.source) (decimation_made g (u32_at card 44) d e).is in
-    rw e (subst (λ (s : Grid). o ≡ with_header card s (header_at card d)) own (subst (λ (y : Header). o ≡ with_header card y.decimation.source y) f p))
 
 -- a grid that passed has too few cells for a byte's offset to wrap
 pub few_cells : (card : List ℕ) (g : Grid) (d : Decimation) (x : Header) → decimation_new g (u32_at card 44) ≡ answered d → x ≡ header_at card d

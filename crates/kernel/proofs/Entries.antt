@@ -1,9 +1,8 @@
 -- The first n entries of a list, from i on, and the test of all of them. Assumes nothing.
 use mathlib.Core.Path.{◌≡◌, refl}
-use mathlib.Core.Bool.{Bool, true, false, ◌&&◌}
+use mathlib.Core.Bool.{true}
 use mathlib.Core.List.{List, [], ◌∷◌}
-use Prim.Native.Nat.{ℕ, zero, suc, ◌+◌, ◌<◌, ◌≤◌}
-use native.Mathlib.Numerals.{add-one}
+use Prim.Native.Nat.{ℕ, zero, suc, ◌<◌, ◌≤◌}
 use native.Mathlib.Omega.{arith}
 use borrow.Author.Tests.{le-leb, leb-true}
 use lib.Dec.{leb}
@@ -22,17 +21,6 @@ pub entries_end : (n i : ℕ) (l : List ℕ) → n ≤ i → drop i (take n l) �
 entries_end n i l h =
     let few : length (take n l) ≤ i = omega (arith, length-take n l) in
     drop_of_length-le (take n l) few
-
--- ---- the loop that tests all
-
-pub within_turn : (n i : ℕ) (l : List ℕ) (most : ℕ) (all : Bool) → i < n → n ≤ length l
-    → (all && leb (get_or l i 0) most) && all_within most (drop (i + 1) (take n l)) ≡ all && all_within most (drop i (take n l))
-within_turn n i l most true h k = rw (add-one, entries_next n i l h k)
-within_turn n i l most false h k = refl
-
-pub within_end : (n i : ℕ) (l : List ℕ) (most : ℕ) (all : Bool) → n ≤ i → all ≡ all && all_within most (drop i (take n l))
-within_end n i l most true h = rw (entries_end n i l h)
-within_end n i l most false h = refl
 
 -- ---- the test, entry by entry
 

@@ -38,10 +38,10 @@ mod_first a b m =
     sym (ap (λ (n : ℕ). n % m) split ∙ add-mul-mod_self_right (a % m * b) (a / m * b) m)
 
 -- eleven doublings in one product
-pub doubled_turn : (r i m : ℕ) → 11 < i → (r * 2048 % m * 2 ^ (i - 11)) % m ≡ (r * 2 ^ i) % m
-doubled_turn r i m h =
-    let e : 2048 * 2 ^ (i - 11) ≡ 2 ^ i = sym (pow-add 2 11 (i - 11)) ∙ ap (λ (k : ℕ). 2 ^ k) (add-sub_of_le (le_of_lt h)) in
-    mod_first (r * 2048) (2 ^ (i - 11)) m ∙ ap (λ (k : ℕ). k % m) (mul_assoc r 2048 (2 ^ (i - 11)) ∙ ap (λ (k : ℕ). r * k) e)
+pub doubled_turn : (r i k m : ℕ) → i ≡ 11 + k → (r * 2048 % m * 2 ^ k) % m ≡ (r * 2 ^ i) % m
+doubled_turn r i k m h =
+    let e : 2048 * 2 ^ k ≡ 2 ^ i = sym (pow-add 2 11 k) ∙ ap (λ (k : ℕ). 2 ^ k) (sym h) in
+    mod_first (r * 2048) (2 ^ k) m ∙ ap (λ (k : ℕ). k % m) (mul_assoc r 2048 (2 ^ k) ∙ ap (λ (k : ℕ). r * k) e)
 
 -- so many doublings of 53 digits have room in a word
 pub shifted : (r i : ℕ) → r < 2 ^ 53 → i ≤ 11 → r * 2 ^ i % 2 ^ 64 ≡ r * 2 ^ i

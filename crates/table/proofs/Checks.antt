@@ -15,10 +15,10 @@ use Rattle.grid.specs.declared.Col.{Col}
 use Rattle.grid.specs.declared.Grid.{Grid}
 use Rattle.grid.specs.Grid.{valid_grid}
 use Rattle.grid.proofs.Valid.{grid_sized}
-use Rattle.layout.specs.Place.{cell_at, run_at, payload_length, corner, right_table}
+use Rattle.layout.specs.Place.{run_at, payload_length, corner, right_table}
 use Rattle.layout.proofs.Places.{place_by_row, cells_in_order, cell_inside, right_table_lem, right_length}
 use Rattle.table.specs.private.Held.{Held}
-use Rattle.table.specs.private.Lines.{line_cells}
+use Rattle.table.specs.private.Lines.{LinesOf, line_cells}
 use Rattle.table.specs.declared.Lines.{Lines}
 use Rattle.table.specs.declared.ColSpan.{ColSpan}
 use Rattle.table.specs.declared.ColSpan.TheVariants.{Through, FullTurn}
@@ -106,13 +106,13 @@ module _ (g : Grid) (cells : ℕ) (rows : RowBand) (cols : ColSpan) (h : Held g 
   held_columns west east e = span_columns g.width west east (rw e at h.columns)
 
   -- its table rows are in order, and the last cell of the lower one is in the table
-  module _ (lines : Lines) (e : (lines.top ≡ cell_at g.width rows.north.0 0) × (lines.bottom ≡ cell_at g.width (suc rows.south.0) 0)) where
+  module _ (t : List Float) (size : length t ≡ cells) (lines : Lines) (e : LinesOf g.width rows t lines) where
     pub lines_ordered : lines.top ≤ lines.bottom
-    lines_ordered = rw (e.0, e.1) (cells_in_order g.width _ _ 0 0 (omega (arith, h.ordered)) (omega arith))
+    lines_ordered = rw (e.top, e.bottom) (cells_in_order g.width _ _ 0 0 (omega (arith, h.ordered)) (omega arith))
 
-    pub lines_inside : lines.bottom + run_at g.width < cells
+    pub lines_inside : lines.bottom + run_at g.width < length lines.cells.now
     lines_inside =
-        rw (place_by_row g.width (suc rows.south.0) g.width _ (run_at g.width) e.1 refl, h.right)
+        rw (place_by_row g.width (suc rows.south.0) g.width _ (run_at g.width) e.bottom refl, e.cells, size, h.right)
         (cell_inside g.width g.height (suc rows.south.0) g.width h.south (omega arith))
 
 -- the first piece of its columns ends on the grid
@@ -125,19 +125,19 @@ first_piece w west east l m = go (leb west.0 east.0) refl
     go false e = (omega arith, omega arith)
 
 -- the cells of those rows are the table's
-module _ (w north south : ℕ) (cells : List Float) (lines : Lines)
-    (e : (lines.top ≡ cell_at w north 0) × (lines.bottom ≡ cell_at w (suc south) 0)) where
-  box_by_lines : (a b : ℕ) → box_sum (line_cells cells lines) 0 0 a b ≡ box_sum (corner w cells) north south a b
+module _ (w : ℕ) (rows : RowBand) (cells : List Float) (lines : Lines) (e : LinesOf w rows cells lines) where
+  box_by_lines : (a b : ℕ) → box_sum (line_cells lines) 0 0 a b ≡ box_sum (corner w cells) rows.north.0 rows.south.0 a b
   unfolding box_sum corner
   box_by_lines a b =
       rw (
-        place_by_row w (suc south) b lines.bottom (run_at b) e.1 refl,
-        place_by_row w north b lines.top (run_at b) e.0 refl,
-        place_by_row w (suc south) a lines.bottom (run_at a) e.1 refl,
-        place_by_row w north a lines.top (run_at a) e.0 refl,
+        e.cells,
+        place_by_row w (suc rows.south.0) b lines.bottom (run_at b) e.bottom refl,
+        place_by_row w rows.north.0 b lines.top (run_at b) e.top refl,
+        place_by_row w (suc rows.south.0) a lines.bottom (run_at a) e.bottom refl,
+        place_by_row w rows.north.0 a lines.top (run_at a) e.top refl,
       )
 
-  pub sum_by_lines : (cols : ColSpan) → rectangle_sum w (line_cells cells lines) 0 0 cols ≡ rectangle_sum w (corner w cells) north south cols
+  pub sum_by_lines : (cols : ColSpan) → rectangle_sum w (line_cells lines) 0 0 cols ≡ rectangle_sum w (corner w cells) rows.north.0 rows.south.0 cols
   unfolding rectangle_sum
   sum_by_lines FullTurn = box_by_lines 0 w
   sum_by_lines (Through west east) =

@@ -8,20 +8,8 @@ use Rattle.sqrt.proofs.small_root.Goals as goal
 pub overflow_sub-s : goal.overflow_sub-s
 overflow_sub-s c = omega (arith, lacks c.args.b c.requires.0 c.requires.1)
 
-pub overflow_cast-s : goal.overflow_cast-s
-overflow_cast-s c = omega (arith, lacks c.args.b c.requires.0 c.requires.1)
-
-pub overflow_sub-result : goal.overflow_sub-result
-overflow_sub-result c = omega (arith, lacks c.args.b c.requires.0 c.requires.1)
-
-pub overflow_shl-b : goal.overflow_shl-b
-overflow_shl-b c = omega (arith, lacks c.args.b c.requires.0 c.requires.1)
-
 pub by_digits-requires : goal.by_digits-requires
 by_digits-requires c = (word _ _ c.requires.0 c.requires.1 (lacks c.args.b c.requires.0 c.requires.1)).1
-
-pub overflow_add-result : goal.overflow_add-result
-overflow_add-result c = omega (arith, below_infinity _ _ _ _ (split_small c.args.b (count_leading_zeros 64 c.args.b - 11) c.requires.0 c.requires.1 (lacks c.args.b c.requires.0 c.requires.1)) c.by_digits.ensures)
 
 pub float_from_bits-result : goal.float_from_bits-result
 float_from_bits-result c = no_nan_pattern _ (below_infinity _ _ _ _ (split_small c.args.b (count_leading_zeros 64 c.args.b - 11) c.requires.0 c.requires.1 (lacks c.args.b c.requires.0 c.requires.1)) c.by_digits.ensures)

@@ -1,36 +1,14 @@
 -- `sqrt::whole_root` meets its contract: one division settles the root where the guess leaves little, and the digit loop elsewhere. Assumes nothing.
 use Rattle.std.proofs.Common.{ℕ, subst, arith}
 use Rattle.sqrt.specs.private.Steps.{Closest}
-use Rattle.sqrt.proofs.Squares.{product_lt}
 use Rattle.sqrt.proofs.Settled.{shortened, sizes, rounded_up, rounded_down}
 use Rattle.sqrt.proofs.whole_root.Goals as goal
-
-pub overflow_mul-a : goal.overflow_mul-a
-overflow_mul-a c = omega (arith, product_lt 32 c.guess-a.ensures c.guess-a.ensures)
-
-pub nonzero_div-q : goal.nonzero_div-q
-nonzero_div-q c = (sizes _ _ _ (shortened c.args.y c.requires).lead c.guess-a.ensures c.wrapping_sub_u64-rest.ensures.value c.if-rest-lt-FEW.true).some
-
-pub overflow_add-c : goal.overflow_add-c
-overflow_add-c c = omega (arith, sizes _ _ _ (shortened c.args.y c.requires).lead c.guess-a.ensures c.wrapping_sub_u64-rest.ensures.value c.if-rest-lt-FEW.true)
-
-pub overflow_add-q : goal.overflow_add-q
-overflow_add-q c = omega (arith, sizes _ _ _ (shortened c.args.y c.requires).lead c.guess-a.ensures c.wrapping_sub_u64-rest.ensures.value c.if-rest-lt-FEW.true)
 
 pub overflow_mul-q : goal.overflow_mul-q
 overflow_mul-q c = omega (arith, sizes _ _ _ (shortened c.args.y c.requires).lead c.guess-a.ensures c.wrapping_sub_u64-rest.ensures.value c.if-rest-lt-FEW.true)
 
 pub overflow_add-a : goal.overflow_add-a
 overflow_add-a c = omega (arith, sizes _ _ _ (shortened c.args.y c.requires).lead c.guess-a.ensures c.wrapping_sub_u64-rest.ensures.value c.if-rest-lt-FEW.true)
-
-pub nonzero_rem-more : goal.nonzero_rem-more
-nonzero_rem-more c = (sizes _ _ _ (shortened c.args.y c.requires).lead c.guess-a.ensures c.wrapping_sub_u64-rest.ensures.value c.if-rest-lt-FEW.true).some
-
-pub overflow_mul-more-then-rest-lt-FEW : goal.overflow_mul-more-then-rest-lt-FEW
-overflow_mul-more-then-rest-lt-FEW c = omega (arith, sizes _ _ _ (shortened c.args.y c.requires).lead c.guess-a.ensures c.wrapping_sub_u64-rest.ensures.value c.if-rest-lt-FEW.true)
-
-pub overflow_add-result : goal.overflow_add-result
-overflow_add-result c = omega (arith, sizes _ _ _ (shortened c.args.y c.requires).lead c.guess-a.ensures c.wrapping_sub_u64-rest.ensures.value c.if-rest-lt-FEW.true)
 
 pub returns-then-a-q : goal.returns-then-a-q
 returns-then-a-q c =
@@ -41,9 +19,6 @@ pub returns-then-rest-lt-FEW : goal.returns-then-rest-lt-FEW
 returns-then-rest-lt-FEW c =
     let s = shortened c.args.y c.requires in
     rounded_down _ _ _ s.lead c.guess-a.ensures c.wrapping_sub_u64-rest.ensures.value c.if-rest-lt-FEW.true _ s.value c.if-a-q.false
-
-pub by_digits-requires : goal.by_digits-requires
-by_digits-requires c = omega (arith, (shortened c.args.y c.requires).lead)
 
 pub returns : goal.returns
 returns c =
