@@ -70,7 +70,7 @@ impl GeodesyCall {
             GeodesyCall::Arc => one(arc_km(x)),
             GeodesyCall::CentralAngle => one(central_angle_rad(x)),
             GeodesyCall::Radius => given(RadiusKm::new(x)?.km(), 0.0),
-            GeodesyCall::RadiusFromU32 => one(RadiusKm::from_u32(words.at(0)).km()),
+            GeodesyCall::RadiusFromU32 => one(RadiusKm::from(words.at::<u32>(0)).km()),
             GeodesyCall::RadiusWidened => given(RadiusKm(x).widened_by(y)?.km(), 0.0),
             GeodesyCall::ZoneArea => one(zone_area_km2(band(x, y), words.at(2))),
         })

@@ -1,5 +1,4 @@
 // Calls of `layout`: list 1 is read and list 2 written. Both follow the answer as they are left.
-use crate::answers::one;
 use crate::calls::put;
 use crate::text::Line;
 use crate::words::{SPACE, Words};
@@ -22,7 +21,7 @@ impl MapCall {
             MapCall::ToBlocks => to_blocks(grid, read, written),
             MapCall::ToRows => to_rows(grid, read, written),
         };
-        put(out, answer.map(|()| one(0)));
+        put(out, answer.map(|()| [0; 6]));
         out.put_all(read);
         out.put_all(written);
     }
