@@ -1,29 +1,30 @@
 -- What the checks of the builder's calls give. Assumes nothing.
 use mathlib.Core.Path.{◌≡◌, refl, sym, ◌∙◌}
-use mathlib.Core.Bool.{true, false, not, and-false}
+use mathlib.Core.Bool.{Bool, true, false, not, ◌||◌}
 use mathlib.Core.List.{List}
-use Prim.Native.Nat.{ℕ, zero, suc, ◌*◌, ◌≤◌, ◌<◌}
+use Prim.Native.Nat.{ℕ, zero, suc, min, ◌+◌, ◌*◌, ◌≤◌, ◌<◌}
 use native.Mathlib.Nat.{suc-mul, zero-mul, mul-le-mul}
-use native.Mathlib.Numerals.{lt_of_le_of_ne}
+use native.Mathlib.Numerals.{add-one, lt_of_le_of_ne}
 use native.Mathlib.Omega.{arith}
-use borrow.Author.Tests.{eqb-true, eqb-false, leb-true, ltb-false, eq-eqb, ne_eqb, le-leb, lt-leb, le-ltb, not-false}
+use borrow.Author.Tests.{eqb-true, eqb-false, leb-true, ltb-false, eq-eqb, ne_eqb, le-leb, le-ltb, not-false}
 use lib.Dec.{eqb, leb, ltb}
 use lib.ListN.{length}
-use Rattle.refusal.proofs.Tests.{both, neither}
-use Rattle.refusal.proofs.Chains.{first_passed}
-use Rattle.refusal.specs.Refusal.{first, passed, unless_refused, not_its_makers, wrong_table_length, wrong_accumulator_length}
+use Rattle.std.proofs.lemmas.Bool.{and_parts, or_parts}
+use Rattle.refusal.proofs.Chains.{first_passed, number_not_0}
+use Rattle.refusal.specs.declared.Refusal.{Refusal}
+use Rattle.refusal.specs.Refusal.{first, passed, unless_refused, number_of, not_its_makers, wrong_table_length, wrong_accumulator_length}
 use Rattle.refusal.specs.Refusal.{wrong_coarse_length, row_after_last, wrong_row_length, finish_before_last}
 use Rattle.raster.specs.Raster.{cells_of, row_tallies}
 use Rattle.raster.proofs.Tallies.{cells_of_row, cells_of_sum}
 use Rattle.grid.specs.declared.Grid.{Grid}
 use Rattle.grid.specs.Grid.{limit, valid_grid}
 use Rattle.layout.specs.Place.{payload_length}
+use Rattle.layout.proofs.Places.{length_held}
 use Rattle.decimation.specs.declared.Decimation.{Decimation}
 use Rattle.decimation.specs.Decimation.{factor_refusal, decimation_of, valid_decimation}
 use Rattle.decimation.proofs.Factors.{Framed, framed, decimation_valid}
 use Rattle.builder.specs.declared.Builder.{Builder}
-use Rattle.builder.specs.declared.Lengths.{Lengths}
-use Rattle.builder.specs.Build.{Buffers, lengths_of, off_table, off_rows, off_coarse, lent_refusal, valid_builder}
+use Rattle.builder.specs.Build.{Lengths, Buffers, lengths_of, off_table, off_rows, off_coarse, lent_refusal, valid_builder}
 use Rattle.builder.specs.Build.{start_refusal, first_builder, row_refusal, builder_after, finish_refusal}
 use Rattle.builder.specs.private.Room.{Sized}
 
@@ -37,19 +38,15 @@ pub record Standing (b : Builder) : Type 0 where
 pub standing : (b : Builder) → valid_builder b ≡ true → Standing b
 unfolding valid_builder
 standing b e =
-    let p = both _ (eqb (cells_of b.tallies) (b.rows * b.decimation.source.width)) e in
-    let q = both (valid_decimation b.decimation) (leb b.rows b.decimation.source.height) p.0 in
+    let p = and_parts _ (eqb (cells_of b.tallies) (b.rows * b.decimation.source.width)) e in
+    let q = and_parts (valid_decimation b.decimation) (leb b.rows b.decimation.source.height) p.0 in
     record { made = q.0; rows = leb-true _ _ q.1; tallied = eqb-true _ _ p.1 }
 
--- the test of a builder whose decimation and rows are right, and of one with too many rows
+-- the test of a builder whose decimation and rows are right
 pub valid_so_far : (b : Builder) → valid_decimation b.decimation ≡ true → b.rows ≤ b.decimation.source.height
     → valid_builder b ≡ eqb (cells_of b.tallies) (b.rows * b.decimation.source.width)
 unfolding valid_builder
 valid_so_far b v l = rw (v, le-leb b.rows b.decimation.source.height l)
-
-pub rows_over : (b : Builder) → b.decimation.source.height < b.rows → valid_builder b ≡ false
-unfolding valid_builder
-rows_over b h = rw (lt-leb b.rows b.decimation.source.height h, and-false)
 
 pub builder_framed : (b : Builder) → valid_builder b ≡ true → Framed b.decimation
 builder_framed b e = framed b.decimation (standing b e).made
@@ -68,7 +65,7 @@ module _ (d : Decimation) (lent : Lengths) where
       let p11 = first_passed (off_table d lent) wrong_table_length _ tt e in
       let p29 = first_passed (off_rows d lent) wrong_accumulator_length _ tt p11.1 in
       let p30 = first_passed (off_coarse d lent) wrong_coarse_length rest tt p29.1 in
-      let rows = neither (not (eqb lent.acc (suc d.source.width))) _ p29.0 in (
+      let rows = or_parts (not (eqb lent.acc (suc d.source.width))) _ p29.0 in (
         record {
           acc = eqb-true _ _ (not-false _ rows.0);
           corr = eqb-true _ _ (not-false _ rows.1);
@@ -87,6 +84,31 @@ module _ (d : Decimation) (lent : Lengths) where
         eq-eqb lent.corr (suc d.source.width) l.corr,
         eq-eqb lent.coarse (suc d.grid.width) l.coarse,
       )
+
+  -- as the code works the lengths out
+  pub lent_read : valid_decimation d ≡ true → lent_refusal d lent passed
+      ≡ first (not (eqb lent.table (min (payload_length d.grid.width d.grid.height) 0xffff_ffff_ffff_ffff))) wrong_table_length
+      (first (not (eqb lent.acc (d.source.width + 1)) || not (eqb lent.corr (d.source.width + 1))) wrong_accumulator_length
+      (first (not (eqb lent.coarse (d.grid.width + 1))) wrong_coarse_length passed))
+  unfolding lent_refusal
+  lent_read v =
+      let f = framed d v in
+      rw (length_held d.grid.width d.grid.height f.few_columns f.few_lines, add-one d.source.width, add-one d.grid.width)
+
+  -- what they are refused with comes ahead of the checks after them, which are looked at where the lengths are right
+  pub lent_ahead : (rest : ℕ) (r : Refusal) → number_of r ≡ lent_refusal d lent passed → number_of r ≡ lent_refusal d lent rest
+  unfolding lent_refusal
+  lent_ahead rest r e = go (off_table d lent) (off_rows d lent) (off_coarse d lent) e
+    where
+      go : (a b c : Bool) → number_of r ≡ first a wrong_table_length (first b wrong_accumulator_length (first c wrong_coarse_length passed))
+          → number_of r ≡ first a wrong_table_length (first b wrong_accumulator_length (first c wrong_coarse_length rest))
+      go true b c e = e
+      go false true c e = e
+      go false false true e = e
+      go false false false e = absurd (number_not_0 r e)
+
+  pub lent_past : (rest : ℕ) → passed ≡ lent_refusal d lent passed → lent_refusal d lent rest ≡ rest
+  lent_past rest e = lent_goes_on rest (lent_passed passed (sym e)).0
 
 -- ---- a call that is not refused
 
@@ -121,6 +143,13 @@ finish_passed b m e =
     let r = first_passed (ltb b.rows b.decimation.source.height) finish_before_last _ tt q.1 in
     let v = not-false (valid_builder b) p.0 in
     record { valid = v; lengths = q.0; rows = omega (arith, (standing b v).rows, ltb-false b.rows b.decimation.source.height r.0) }
+
+-- the total is in the accumulator
+pub total_inside : (b : Builder) (lent : Lengths) → passed ≡ finish_refusal b lent → b.decimation.source.width < lent.acc
+unfolding finish_refusal
+total_inside b lent e =
+    let p = first_passed (not (valid_builder b)) not_its_makers _ tt (sym e) in
+    omega (arith, (lent_passed b.decimation lent _ p.1).0.acc)
 
 -- a start
 pub record Begun (g : Grid) (k : ℕ) (m : Buffers) : Type 0 where

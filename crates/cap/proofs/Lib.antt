@@ -2,4 +2,3 @@
 pub mod Walks
 pub mod Steps
 pub mod SameTests
-pub mod Backward

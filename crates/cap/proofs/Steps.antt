@@ -1,58 +1,50 @@
--- Where a walk stops, and the test for a NaN. Assumes nothing.
-use Rattle.std.proofs.Common.{◌≡◌, refl, ap, ◌∙◌, Bool, true, false, ℕ, zero, suc, ◌+◌, ◌-◌, ◌≤◌, ◌<◌, arith}
-use mathlib.Core.Logic.{◌⊎◌, inl, inr}
-use Rattle.std.specs.Option.{MatchOption, unwrap_or}
-use Rattle.std.specs.declared.option.Option.{Option}
-use Rattle.std.specs.declared.option.Option.TheVariants.{Some, None}
+-- A turn and the ends of each loop, and the test for a NaN. Assumes nothing.
+use mathlib.Core.Path.{◌≡◌, refl}
+use mathlib.Core.Bool.{Bool, true, false}
+use Prim.Native.Nat.{ℕ, zero, suc, ◌+◌, ◌-◌, ◌≤◌, ◌<◌}
+use native.Mathlib.Numerals.{add-one}
+use native.Mathlib.Omega.{arith}
 use borrow.Author.Tests.{eq-eqb}
 use lib.Ieee.{Float, nan, inf, fin, eq, ne, is_nan}
-use Rattle.cap.specs.Walks.{climb, climbed, descend, descended}
+use Rattle.cap.specs.Walks.{climb, climbed, descended}
+
+module _ (p : ℕ → Bool) (last h : ℕ) where
+  pub climb_turn : h < last → p (h + 1) ≡ true → climbed p last (h + 1) ≡ climbed p last h
+  unfolding climbed
+  climb_turn l e =
+      let n : last - h ≡ suc (last - suc h) = omega arith in
+      rw (n, ← add-one h, e, add-one h)
+
+  pub climb_out : p (h + 1) ≡ false → h ≡ climbed p last h
+  unfolding climbed
+  climb_out e = rw (← add-one h, e) (stays (last - h))
+    where
+      stays : (n : ℕ) → h ≡ climb p n false h
+      stays zero = refl
+      stays (suc n) = refl
+
+  pub climb_end : last ≤ h → h ≡ climbed p last h
+  unfolding climbed
+  climb_end l =
+      let n : last - h ≡ 0 = omega arith in
+      rw n
 
 module _ (p : ℕ → Bool) where
-  -- up d steps to the first number r whose next is out
-  climbs : (d n h r : ℕ) (b : Bool) → d + h ≡ r → d ≤ n → b ≡ p (suc h) → ((k : ℕ) → h ≤ k → k < r → p (suc k) ≡ true) → (d ≡ n) ⊎ (p (suc r) ≡ false) →
-      r ≡ climb p n b h
-  climbs zero zero h r b l m e below stop = omega arith
-  climbs zero (suc n) h r false l m e below stop = omega arith
-  climbs zero (suc n) h r true l m e below (inl z) = absurd (omega arith)
-  climbs zero (suc n) h r true l m e below (inr out) = let same : h ≡ r = omega arith in absurd (cc (ap (λ k. p (suc k)) same))
-  climbs (suc d) zero h r b l m e below stop = absurd (omega arith)
-  climbs (suc d) (suc n) h r false l m e below stop = let next = below h (omega arith) (omega arith) in absurd (cc)
-  climbs (suc d) (suc n) h r true l m e below stop =
-      let ends : (d ≡ n) ⊎ (p (suc r) ≡ false) = elim stop [ inl z ↦ inl (omega arith) | inr out ↦ inr out ] in
-      climbs d n (suc h) r (p (suc (suc h))) (omega arith) (omega arith) refl (λ k a b. below k (omega arith) b) ends
-
-  -- down d steps to the first number r that is in
-  descends : (h d r : ℕ) (b : Bool) → d + r ≡ h → b ≡ p h → ((k : ℕ) → r < k → k ≤ h → p k ≡ false) → (r ≡ 0) ⊎ (p r ≡ true) → r ≡ descend p b h
-  descends zero d r b l e above stop = omega arith
-  descends (suc h) zero r true l e above stop = omega arith
-  descends (suc h) (suc d) r true l e above stop = let miss = above (suc h) (omega arith) (omega arith) in absurd (cc)
-  descends (suc h) zero r false l e above (inl z) = absurd (omega arith)
-  descends (suc h) zero r false l e above (inr hit) = let same : r ≡ suc h = omega arith in absurd (cc (ap p same))
-  descends (suc h) (suc d) r false l e above stop = descends h d r (p h) (omega arith) refl (λ k a b. above k a (omega arith)) stop
-
-  -- .. as `find` gives it, of the numbers whose next is out
-  pub climbed_to : (last h : ℕ) (o : Option ℕ) → h ≤ last →
-      MatchOption o ((k : ℕ) → h ≤ k → k < last → p (suc k) ≡ true)
-      (λ i. (h ≤ i) × (i < last) × (p (suc i) ≡ false) × ((k : ℕ) → h ≤ k → k < i → p (suc k) ≡ true)) → unwrap_or o last ≡ climbed p last h
-  unfolding climbed
-  climbed_to last h None l f = climbs (last - h) (last - h) h last (p (suc h)) (omega arith) (omega arith) refl f (inl refl)
-  climbed_to last h (Some i) l f =
-      climbs (i - h) (last - h) h i (p (suc h)) (omega (arith, f.0)) (omega (arith, f.0, f.1)) refl f.3 (inr f.2)
-
-  before : (k : ℕ) → 0 < k → p (k - 1 + 1) ≡ false → p k ≡ false
-  before k l e = let same : k - 1 + 1 ≡ k = omega arith in rw same at e
-
-  -- .. and of the numbers whose next is in, from the last on
-  pub descended_to : (start : ℕ) (o : Option ℕ) (r : ℕ) →
-      MatchOption o ((k : ℕ) → k < start → p (k + 1) ≡ false) (λ i. (i < start) × (p (i + 1) ≡ true) × ((k : ℕ) → i < k → k < start → p (k + 1) ≡ false)) →
-      MatchOption o (r ≡ 0) (λ i. r ≡ i + 1) → r ≡ descended p start
+  pub descend_turn : (h : ℕ) → 0 < h → p h ≡ false → descended p (h - 1) ≡ descended p h
   unfolding descended
-  descended_to start None r f e =
-      descends start start r (p start) (omega (arith, e)) refl (λ k a b. before k (omega arith) (f (k - 1) (omega arith))) (inl e)
-  descended_to start (Some i) r f e =
-      descends start (start - r) r (p start) (omega (arith, e, f.0)) refl
-      (λ k a b. before k (omega arith) (f.2 (k - 1) (omega (arith, e)) (omega arith))) (inr (ap p e ∙ f.1))
+  descend_turn zero l e = absurd (omega arith)
+  descend_turn (suc h) l e =
+      let n : suc h - 1 ≡ h = omega arith in
+      rw (n, e)
+
+  pub descend_in : (h : ℕ) → p h ≡ true → h ≡ descended p h
+  unfolding descended
+  descend_in zero e = refl
+  descend_in (suc h) e = rw e
+
+  pub descend_end : (h : ℕ) → h ≡ 0 → h ≡ descended p h
+  unfolding descended
+  descend_end h e = rw e
 
 -- only a NaN differs from itself
 pub nan_differs : (x : Float) → is_nan x ≡ ne x x

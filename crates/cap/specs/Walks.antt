@@ -2,10 +2,6 @@
 -- it looks at next, so that nothing past the first that fails is asked.
 use Rattle.std.specs.Prelude.{◌≡◌, Bool, true, false, ◌⊎◌, ℕ, zero, suc, ◌-◌, ◌≤◌}
 
--- each call at h gives what the test p gives
-abbrev pub IsTest : (ℕ → Bool → Type 0) → (ℕ → Bool) → Type 0
-IsTest gives p = (h : ℕ) (b : Bool) → gives h b → b ≡ p h
-
 -- up from h while the next number is in, n steps at most; b says whether the next one is
 abbrev pub climb : (ℕ → Bool) → ℕ → Bool → ℕ → ℕ
 climb p zero b h = h

@@ -2,8 +2,8 @@
 // (Cap of kernel.rs).
 #![tactic(auto)]
 
-ghost use Rattle.std.specs.Prelude.{◌≡◌, Bool, ℕ, min, ◌≤◌, ◌<◌};
-ghost use Rattle.cap.specs.Walks.{IsTest, climbed, descended};
+ghost use Rattle.std.specs.Prelude.{◌≡◌, ◌≤◌};
+ghost use Rattle.cap.specs.Walks.{climbed, descended};
 ghost use Rattle.cap.specs.Terms.{lon_term, cap_terms, row_terms, within_angle, contained_by, reached_by};
 ghost use Rattle.cap.specs.Terms.{edge_ratio_by, edge_columns_by, estimated_by, half_width_by};
 ghost use Rattle.cap.specs.Cap.{closing as closing_of};
@@ -52,26 +52,6 @@ fn lon_term(lon_step: f64, cells: u32) -> f64
 {
     let half = stand_ins::sin(stand_ins::to_radians((cells as f64) * lon_step - 0.0) / 2.0);
     half * half
-}
-
-// Up from start while the next number is in, to `last` at most.
-pub fn walk_up<F: Fn(u32) -> bool>(is_in: F, start: u32, last: u32) -> u32
-    requires before { start ≤ last }
-    requires callable { (h : ℕ) → start < h → h ≤ last → F.pre is_in h }
-    ensures { (p : ℕ → Bool) → IsTest (F.post is_in) p → result ≡ climbed p last start }
-{
-    (start..last).find(|&h| !is_in(h + 1)).unwrap_or(last)
-}
-
-// Down from start to the first number that is in, or to 0.
-pub fn walk_down<F: Fn(u32) -> bool>(is_in: F, start: u32) -> u32
-    requires { (h : ℕ) → 0 < h → h ≤ start → F.pre is_in h }
-    ensures { (p : ℕ → Bool) → IsTest (F.post is_in) p → result ≡ descended p start }
-{
-    (0..start)
-        .rev()
-        .find(|&h| is_in(h + 1))
-        .map_or(0, |h| h + 1)
 }
 
 impl Cap {
@@ -169,13 +149,48 @@ impl CapTerms {
         float::to_u32(columns)
     }
 
+    // Up from start while the next column is in.
+    // (a) Document 01 asks for a loop that yields its value by break, here and in `walk_down`.
+    fn walk_up(self, row: RowTerms, start: u32) -> u32
+        requires { start ≤ self.closing }
+        ensures { result ≡ climbed (contained_by self row) self.closing start }
+    {
+        let mut h = start;
+        loop {
+            if self.closing <= h {
+                break h;
+            }
+            if !self.contains(row, h + 1) {
+                break h;
+            }
+            h += 1;
+        }
+    }
+
+    // Down from start until a column is in, or to 0.
+    fn walk_down(self, row: RowTerms, start: u32) -> u32
+        ensures { result ≡ descended (contained_by self row) start }
+    {
+        let mut h = start;
+        loop {
+            if h == 0 {
+                break h;
+            }
+            if self.contains(row, h) {
+                break h;
+            }
+            h -= 1;
+        }
+    }
+
     // The half-width of the row at `lat`: the estimate may be off, the walk decides.
+    #[tactic(auto, unfolding(crate::specs::Terms::half_width_by, crate::specs::Walks::walked))]
     pub fn half_width(self, lat: f64) -> u32
         ensures { result ≡ half_width_by self lat }
     {
         let row = self.row(lat);
         let start = self.estimate(row).min(self.closing);
-        let up = walk_up(|h| self.contains(row, h), start, self.closing);
-        walk_down(|h| self.contains(row, h), up)
+        let up = self.walk_up(row, start);
+        self.walk_down(row, up)
     }
 }

@@ -9,9 +9,9 @@ use lib.Dec.{ltb, eqb}
 use lib.Ieee.{binary64}
 use lib.Ieee.Bits.{of_bits-fits}
 use lib.ListN.{length}
-use Rattle.refusal.specs.Refusal.{Outcome, answered, first, passed, outcome, and_then, card_ends_early, card_too_large, sections_overlap}
+use Rattle.refusal.specs.Refusal.{answered, first, passed, outcome, and_then, card_ends_early, card_too_large, sections_overlap}
 use Rattle.refusal.proofs.Chains.{first_passed, answered_passed, went_past, went_on}
-use Rattle.refusal.proofs.Tests.{both}
+use Rattle.std.proofs.lemmas.Bool.{and_parts}
 use Rattle.sections.specs.Sections.{inside, sections_apart, section_refusal}
 use Rattle.grid.specs.declared.Grid.{Grid}
 use Rattle.grid.specs.Grid.{grid_new}
@@ -32,14 +32,6 @@ pub never_22 : (card : List ℕ) (g : Grid) (k : ℕ) → grid_new (grid_at card
 unfolding decimation_new grid_at
 never_22 card g k e = rw (made_valid (grid_at card) g (of_bits-fits binary64 (u64_at card 16)) e)
 
--- the checks after a decimation was made
-pub decimation_read : (card : List ℕ) (g : Grid) (d : Decimation) (x : Header) (o : Outcome Header)
-    → decimation_new g (u32_at card 44) ≡ answered d → x ≡ header_at card d → o ≡ with_header card x.decimation.source x → o ≡ with_grid card g
-unfolding header_at
-decimation_read card g d x o e f p =
-    let own : d.source ≡ g = ap (λ (y : Decimation). y.source) (decimation_made g (u32_at card 44) d e).is in
-    rw e (subst (λ (s : Grid). o ≡ with_header card s (header_at card d)) own (subst (λ (y : Header). o ≡ with_header card y.decimation.source y) f p))
-
 -- a grid that passed has too few cells for a byte's offset to wrap
 pub few_cells : (card : List ℕ) (g : Grid) (d : Decimation) (x : Header) → decimation_new g (u32_at card 44) ≡ answered d → x ≡ header_at card d
     → FewCells x.decimation.source
@@ -58,7 +50,7 @@ header_accepted card g d h whole made e =
     let q = first_passed (table_too_large g) card_too_large (section_refusal (length card) rows circles) tt p.0 in
     let r = first_passed _ card_ends_early (first (not (sections_apart rows circles)) sections_overlap passed) tt q.1 in
     let from = (decimation_made g (u32_at card 44) d made).is in
-    let s = both (inside (length card) rows) (inside (length card) circles) (not-false _ r.0) in
+    let s = and_parts (inside (length card) rows) (inside (length card) circles) (not-false _ r.0) in
     subst (λ (y : Header). Accepted card y) p.1
     record {
       whole = whole;

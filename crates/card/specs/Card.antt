@@ -1,6 +1,6 @@
 -- Document 01, 'The card': the header, its checks in their order, and the two sections.
 use Rattle.std.specs.Prelude.{List, Bool, not, cond, ℕ, ◌+◌, ◌*◌, eqb, ltb, length}
-use Rattle.refusal.specs.Refusal.{Outcome, answered, refused, first, outcome, and_then, card_ends_early, card_word_not_zero, card_too_large}
+use Rattle.refusal.specs.Refusal.{Outcome, refused, first, outcome, and_then, card_ends_early, card_word_not_zero, card_too_large}
 use Rattle.sections.specs.declared.ByteRange.{ByteRange}
 use Rattle.sections.specs.Sections.{section_refusal}
 use Rattle.grid.specs.declared.Grid.{Grid}
@@ -11,8 +11,6 @@ use Rattle.decimation.specs.Decimation.{decimation_new}
 use Rattle.card.specs.Words.{u32_at, f64_at, words_at}
 use Rattle.card.specs.declared.Header.{Header}
 use Rattle.card.specs.declared.CardCircle.{CardCircle}
-use Rattle.card.specs.declared.HeaderAnswer.{HeaderAnswer}
-use Rattle.card.specs.declared.HeaderAnswer.TheVariants as header
 
 -- width u32 at 0, height 4, origin latitude f64 8, longitude 16, lon_step 24, lat_step 32
 unfoldable pub grid_at : List ℕ → Grid
@@ -35,11 +33,6 @@ circle_bytes h = record { start = h.circles_at; end = h.circles_at + 16 * h.circ
 -- 27 (table): the source table's payload length is over 8,192, whatever the factor (document 02, C-16)
 abbrev pub table_too_large : Grid → Bool
 table_too_large g = ltb 8192 (payload_length g.width g.height)
-
--- what a header call's answer is in document 01's terms
-abbrev pub header_outcome : HeaderAnswer → Outcome Header
-header_outcome (header.Accepted h) = answered h
-header_outcome (header.Refused n) = refused n
 
 -- 27 (table), 25 (sections), 32
 abbrev pub with_header : List ℕ → Grid → Header → Outcome Header

@@ -4,8 +4,14 @@
 mod read;
 mod words;
 
+ghost use Rattle.std.specs.Prelude.{◌≡◌, MatchResult};
+ghost use Rattle.refusal.specs.Refusal.{answered, refused, number_of};
+ghost use Rattle.card.specs.Card.{read_header, circle_at};
+ghost use Rattle.card.specs.private.Accepted.{Accepted};
+
 use decimation::Decimation;
 pub use read::read_header;
+use refusal::Refusal;
 pub use words::{circle_at, u32_at};
 
 #[derive(Clone, Copy)]
@@ -25,9 +31,29 @@ pub struct CardCircle {
     pub radius: f64,
 }
 
-// What a header call gives: the header, or the refusal's number.
+// A card whose header passed its checks.
 #[derive(Clone, Copy)]
-pub enum HeaderAnswer {
-    Accepted(Header),
-    Refused(u32),
+pub struct AcceptedCard<'a> {
+    pub bytes: &'a [u8],
+    pub header: Header,
+    pub ghost accepted: { Accepted bytes.now header },
+}
+
+impl<'a> AcceptedCard<'a> {
+    // The card with its header, refused as `read_header` refuses it.
+    pub fn read(bytes: &'a [u8]) -> Result<AcceptedCard<'a>, Refusal>
+        ensures { MatchResult result
+            (λ c. (read_header bytes.now ≡ answered c.header) × (c.bytes.now ≡ bytes.now))
+            (λ r. read_header bytes.now ≡ refused (number_of r)) }
+    {
+        let header = read_header(bytes)?;
+        Ok(AcceptedCard { bytes, header })
+    }
+
+    // Circle i of its circles.
+    pub fn circle(self, i: u32) -> CardCircle
+        ensures { result ≡ circle_at self.entry.bytes.now self.entry.header i }
+    {
+        circle_at(self.bytes, self.header, i)
+    }
 }

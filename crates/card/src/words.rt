@@ -1,68 +1,47 @@
 // Little-endian words of a card. A byte past the card's end counts as 0.
-ghost use Rattle.std.specs.Prelude.{◌≡◌, ◌+◌, ◌*◌, ◌<◌, get_or};
-ghost use Rattle.card.specs.Words.{u32_at, u64_at, f64_at};
+ghost use Rattle.std.specs.Prelude.{◌≡◌, ℕ, ◌+◌, ◌<◌, slice_index};
+ghost use Rattle.card.specs.Words.{u32_at, f64_at};
 ghost use Rattle.card.specs.Card.{circle_at};
 
 use crate::{CardCircle, Header};
-
-fn wide(x: u8) -> u32
-    ensures { (result ≡ x) × (result < 256) }
-{
-    x as u32
-}
+use std::array::from_fn;
 
 // The byte that is k past a place.
-fn byte_at(card: &[u8], at: usize, k: usize) -> u32
-    ensures { (result ≡ get_or card.now (at + k) 0) × (result < 256) }
+fn byte_at(card: &[u8], at: usize, k: usize) -> u8
+    ensures { result ≡ slice_index card.now (at + k) }
 {
-    if card.len() <= k {
-        return 0;
-    }
-    if card.len() - k <= at {
-        return 0;
-    }
-    wide(card[at + k])
+    card.get(at.saturating_add(k)).copied().unwrap_or(0)
+}
+
+// N bytes from a place on.
+// (d) Card and place stay two arguments: a struct of both would say nothing of them, since a place may be past the end.
+fn bytes_at<const N: usize>(card: &[u8], at: usize) -> [u8; N]
+    ensures { (k : ℕ) → k < N → slice_index result k ≡ slice_index card.now (at + k) }
+{
+    from_fn(|k| byte_at(card, at, k))
 }
 
 pub fn u32_at(card: &[u8], at: usize) -> u32
     ensures { result ≡ u32_at card.now at }
 {
-    let a = byte_at(card, at, 0);
-    let b = byte_at(card, at, 1);
-    let c = byte_at(card, at, 2);
-    let d = byte_at(card, at, 3);
-    a + 256 * (b + 256 * (c + 256 * d))
-}
-
-fn join(low: u32, high: u32) -> u64
-    ensures { result ≡ low + 4294967296 * high }
-{
-    (low as u64) + 4294967296 * (high as u64)
-}
-
-fn u64_at(card: &[u8], at: usize) -> u64
-    requires { at < 4611686018427387904 }
-    ensures { result ≡ u64_at card.now at }
-{
-    let low = u32_at(card, at);
-    let high = u32_at(card, at + 4);
-    join(low, high)
+    u32::from_le_bytes(bytes_at(card, at))
 }
 
 pub(crate) fn f64_at(card: &[u8], at: usize) -> f64
-    requires { at < 4611686018427387904 }
     ensures { result ≡ f64_at card.now at }
 {
-    float::from_bits(u64_at(card, at))
+    float::from_bits(u64::from_le_bytes(bytes_at(card, at)))
 }
 
 // Circle i of a header's circles.
+#[tactic(auto, unfolding(crate::specs::Card::circle_at))]
 pub fn circle_at(card: &[u8], h: Header, i: u32) -> CardCircle
     ensures { result ≡ circle_at card.now h i }
 {
     let at = (h.circles_at as usize) + 16 * (i as usize);
-    let row = u32_at(card, at);
-    let col = u32_at(card, at + 4);
-    let radius = f64_at(card, at + 8);
-    CardCircle { row, col, radius }
+    CardCircle {
+        row: u32_at(card, at),
+        col: u32_at(card, at + 4),
+        radius: f64_at(card, at + 8),
+    }
 }

@@ -2,13 +2,11 @@
 use Rattle.std.specs.Prelude.{Bool, not, ◌&&◌, ◌||◌, ℕ, ◌/◌, ◌%◌, eqb}
 use Rattle.std.specs.Float.{binary64}
 use Rattle.std.specs.Float.Ieee.{mul}
-use Rattle.refusal.specs.Refusal.{Outcome, answered, refused, first, passed, outcome, factor_not_dividing, not_its_makers}
+use Rattle.refusal.specs.Refusal.{Outcome, first, passed, outcome, factor_not_dividing, not_its_makers}
 use Rattle.float.specs.Float.{f64of}
 use Rattle.grid.specs.declared.Grid.{Grid}
 use Rattle.grid.specs.Grid.{grid_refusal, valid_grid, same_grid, wrapped}
 use Rattle.decimation.specs.declared.Decimation.{Decimation}
-use Rattle.decimation.specs.declared.DecimationAnswer.{DecimationAnswer}
-use Rattle.decimation.specs.declared.DecimationAnswer.TheVariants as decimation
 
 -- 10: factor 0 or not dividing both
 abbrev pub off_factor : Grid → ℕ → Bool
@@ -39,11 +37,6 @@ decimation_of g k = record { factor = k; source = g; grid = coarse_grid g k }
 unfoldable pub factor_refusal : Grid → ℕ → ℕ
 unfolding coarsened
 factor_refusal g k = first (off_factor g k) factor_not_dividing (grid_refusal (coarsened g k))
-
--- what a decimation call's answer is in document 01's terms
-abbrev pub decimation_outcome : DecimationAnswer → Outcome Decimation
-decimation_outcome (decimation.Made d) = answered d
-decimation_outcome (decimation.Refused n) = refused n
 
 -- `Decimation::new`: 22, 10, 1 to 9
 unfoldable pub decimation_new : Grid → ℕ → Outcome Decimation

@@ -2,14 +2,15 @@
 #![tactic(auto)]
 
 ghost use Rattle.std.specs.Prelude.{◌≡◌};
-ghost use Rattle.refusal.specs.Refusal.{outcome};
-ghost use Rattle.grid.specs.Grid.{grid_outcome};
-ghost use Rattle.decimation.specs.Decimation.{off_factor, coarse_grid, factor_refusal, decimation_outcome, decimation_new, valid_decimation};
+ghost use Rattle.refusal.specs.Refusal.{outcome, outcome_of};
+ghost use Rattle.decimation.specs.Decimation.{off_factor, coarse_grid, factor_refusal, decimation_new, valid_decimation};
 
 use geodesy::LatLon;
-use grid::{Grid, GridAnswer};
+use grid::Grid;
+use refusal::{Refusal, refuse_if};
 
 // A source grid, the factor, and the coarse grid. `Decimation::new` checks them.
+// (a) No invariant: as of a grid, any fields can come across the C interface.
 #[derive(Clone, Copy)]
 pub struct Decimation {
     pub factor: u32,
@@ -17,40 +18,27 @@ pub struct Decimation {
     pub grid: Grid,
 }
 
-// What a decimation call gives: the decimation, or the refusal's number.
-#[derive(Clone, Copy)]
-pub enum DecimationAnswer {
-    Made(Decimation),
-    Refused(u32),
-}
-
 fn is_off_factor(source: Grid, factor: u32) -> bool
     ensures { result ≡ off_factor source factor }
 {
-    if factor == 0 {
-        return true;
-    }
-    (source.width % factor != 0) | (source.height % factor != 0)
+    factor == 0 || source.width % factor != 0 || source.height % factor != 0
 }
 
 // Dimensions divided by the factor and steps multiplied by it, so a coarse cell is a block of source cells and the
 // origin stays.
-fn coarse_grid(source: Grid, factor: u32) -> GridAnswer
-    ensures { grid_outcome result ≡ outcome (factor_refusal source factor) (coarse_grid source factor) }
+#[tactic(auto, using(refusal::proofs::Chains::refused_as, crate::proofs::Factors::on_factor), unfolding(crate::specs::Decimation::factor_refusal, crate::specs::Decimation::coarse_grid, crate::specs::Decimation::coarsened, grid::specs::Grid::grid_new))]
+fn coarse_grid(source: Grid, factor: u32) -> Result<Grid, Refusal>
+    ensures { outcome_of result ≡ outcome (factor_refusal source factor) (coarse_grid source factor) }
 {
-    if is_off_factor(source, factor) {
-        return GridAnswer::Refused(refusal::FACTOR_NOT_DIVIDING);
-    }
+    refuse_if(is_off_factor(source, factor), Refusal::FactorNotDividing)?;
     let origin = LatLon {
         lat: source.lat,
         lon: source.lon,
     };
     let k = factor as f64;
-    let width = source.width / factor;
-    let height = source.height / factor;
     Grid::new(
-        width,
-        height,
+        source.width / factor,
+        source.height / factor,
         origin,
         source.lon_step * k,
         source.lat_step * k,
@@ -58,36 +46,24 @@ fn coarse_grid(source: Grid, factor: u32) -> GridAnswer
 }
 
 impl Decimation {
-    pub fn new(source: Grid, factor: u32) -> DecimationAnswer
-        ensures { decimation_outcome result ≡ decimation_new source factor }
+    #[tactic(auto, using(refusal::proofs::Chains::refused_as), unfolding(crate::specs::Decimation::decimation_new))]
+    pub fn new(source: Grid, factor: u32) -> Result<Decimation, Refusal>
+        ensures { outcome_of result ≡ decimation_new source factor }
     {
-        if !source.is_valid() {
-            return DecimationAnswer::Refused(refusal::NOT_ITS_MAKERS);
-        }
-        let made = coarse_grid(source, factor);
-        match made {
-            GridAnswer::Made(grid) => DecimationAnswer::Made(Decimation {
-                factor,
-                source,
-                grid,
-            }),
-            GridAnswer::Refused(n) => DecimationAnswer::Refused(n),
-        }
+        refuse_if(!source.is_valid(), Refusal::NotItsMakers)?;
+        Ok(Decimation {
+            factor,
+            source,
+            grid: coarse_grid(source, factor)?,
+        })
     }
 
     // Whether `new` could have made it.
+    #[tactic(auto, using(refusal::proofs::Chains::refused_fails), unfolding(crate::specs::Decimation::valid_decimation))]
     pub fn is_valid(self) -> bool
         ensures { result ≡ valid_decimation self }
     {
-        let source = self.source;
-        let coarse = self.grid;
-        if !source.is_valid() {
-            return false;
-        }
-        let made = coarse_grid(source, self.factor);
-        match made {
-            GridAnswer::Made(g) => coarse.same(g),
-            GridAnswer::Refused(_) => false,
-        }
+        self.source.is_valid()
+            && coarse_grid(self.source, self.factor).is_ok_and(|made| self.grid == made)
     }
 }

@@ -1,10 +1,10 @@
 -- A count is above -1 and below 2 ^ 64. Assumes nothing.
-use Rattle.std.proofs.Common.{◌≡◌, ℕ, ◌+◌, ◌*◌, ◌<◌, ◌≤◌, Bool, true, false, ◌&&◌, ◌||◌, T, eqb, ltb, pos, sym, refl, subst, arith, ltb-true, lt-ltb, eqb-true}
+use Rattle.std.proofs.Common.{◌≡◌, ℕ, ◌+◌, ◌*◌, ◌<◌, ◌≤◌, Bool, true, false, ◌&&◌, ◌||◌, T, ◌++◌, eqb, ltb, pos, sym, refl, subst, arith, ltb-true, lt-ltb, eqb-true}
 use mathlib.Core.Bool.{false≢true}
-use lib.Ieee.{Float, nan, inf, fin, binary64, up, down, lt, le, eq, rem, of_bits}
+use lib.Ieee.{Float, nan, inf, fin, binary64, up, down, lt, le, eq, rem, of_bits, to_bits, to_unsigned}
 use lib.Ieee.Fits.{down_pos}
 use Rattle.float.specs.Float.{f64zero, f64one}
-use Rattle.digits.specs.Digits.{f64p53, is_count}
+use Rattle.digits.specs.Digits.{f64p53, decimal, hex_digits, bits_word, is_count, shown}
 
 holds : (a b : ℕ) → a < b → T (ltb a b)
 holds a b h = subst T (sym (lt-ltb a b h)) tt
@@ -55,3 +55,22 @@ unfolding is_count
 count_fits x h =
     let p = pieces (le f64zero x) (le x f64p53) (eq (rem binary64 x f64one) f64zero) h in
     (above x p.0, under x p.1)
+
+pub count_above : (x : Float) → is_count x ≡ true → T (lt (fin true 1 (pos 0)) x)
+count_above x h = (count_fits x h).0
+
+pub count_below : (x : Float) → is_count x ≡ true → T (lt x (fin false 1 (pos 64)))
+count_below x h = (count_fits x h).1
+
+no_count : (b : Bool) → (b ≡ true → ⊥) → b ≡ false
+no_count true h = absurd (h refl)
+no_count false h = refl
+
+-- how a number is shown, by whether it is a count
+pub shown_count : (x : Float) → is_count x ≡ true → shown x ≡ decimal (to_unsigned 64 x)
+unfolding shown
+shown_count x h = rw h
+
+pub shown_bits : (x : Float) → (is_count x ≡ true → ⊥) → shown x ≡ bits_word ++ hex_digits 16 (to_bits binary64 x)
+unfolding shown
+shown_bits x h = rw (no_count (is_count x) h)

@@ -1,7 +1,8 @@
 -- Texts laid over a slice, one behind another. Assumes nothing.
 use Rattle.std.proofs.Common.{◌≡◌, ℕ, suc, ◌+◌, ◌≤◌, min, List, [], ◌∷◌, ◌++◌, length, set, sym, refl, ap, ◌∙◌, ⊎_elim, append_assoc, add-zero, add-suc, suc-add, eq-or-lt_of_le, arith, length-append}
 use lib.Seq.{sets, set_out, length-sets}
-use Rattle.digits.specs.Laid.{Laid}
+use Rattle.digits.specs.Laid.{Laid, Lays}
+use Rattle.digits.specs.declared.Page.{Page}
 
 -- text laid over text goes on where the first ended
 sets_append : (l : List ℕ) (i : ℕ) (xs ys : List ℕ) → sets (sets l i xs) (i + length xs) ys ≡ sets l i (xs ++ ys)
@@ -47,3 +48,13 @@ laid_length {o} {e} {at} {r} {xs} a = rw a.left (length-sets o at xs)
 -- a text short enough, laid from the front on: the offset behind it is its length
 pub laid_whole : {o e : List ℕ} {r : ℕ} {xs : List ℕ} → Laid o 0 xs e r → length xs ≤ 18446744073709551615 → r ≡ length xs
 laid_whole a h = omega (arith, a.next)
+
+-- the same of a page: text on text
+pub lays_then : {o m e : Page} {xs ys : List ℕ} → Lays o xs m → Lays m ys e → Lays o (xs ++ ys) e
+lays_then a b = record { same = b.same ∙ a.same; laid = laid_then a.laid b.laid }
+
+pub lays_parts : {o m e : Page} {xs : List ℕ} (ys zs : List ℕ) → Lays o xs m → Lays m (ys ++ zs) e → Lays o (xs ++ ys ++ zs) e
+lays_parts ys zs a b = record { same = b.same ∙ a.same; laid = laid_parts ys zs a.laid b.laid }
+
+pub lays_none : (o : Page) → length o.out.now ≤ 18446744073709551615 → o.at ≤ 18446744073709551615 → Lays o [] o
+lays_none o h k = record { same = refl; laid = laid_none _ _ h k }

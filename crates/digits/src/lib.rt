@@ -1,92 +1,34 @@
-// Bytes and numbers, laid over a lent slice from an offset on. What lies past the slice's end is dropped; the answer is the offset
-// behind the part all the same, or the last offset that there is.
+// Bytes and numbers, laid over a lent slice from an offset on. What lies past the slice's end is dropped; the place goes on behind the
+// part all the same, up to the last offset that there is.
 #![tactic(auto)]
 
-ghost use Rattle.std.specs.Prelude.{◌≡◌, ◌+◌, ◌<◌, min, true, [], ◌∷◌, ◌++◌};
+ghost use Rattle.std.specs.Prelude.{◌≡◌, ◌<◌, ◌≤◌, ◌^◌, true, [], ◌∷◌, ◌++◌};
 ghost use Rattle.std.specs.Float.Ieee.{to_unsigned};
+ghost use Rattle.std.specs.Option.{SomeIff};
 ghost use Rattle.digits.specs.Digits.{decimal, hex_digit, hex_digits, is_count, shown, newline, bits_word};
-ghost use Rattle.digits.specs.Laid.{Laid};
+ghost use Rattle.digits.specs.Laid.{Begins, Lays};
 
-pub const SPACE: u8 = 32;
+pub const SPACE: u8 = b' ';
 
-pub const NEWLINE: u8 = 10;
+pub const NEWLINE: u8 = b'\n';
 
-const LAST: usize = 18446744073709551615;
-
-// The offset behind a byte.
-fn next(at: usize) -> usize
-    ensures { result ≡ min (at + 1) 18446744073709551615 }
-{
-    if at < LAST { at + 1 } else { LAST }
+// A lent slice, and the offset of what is laid next.
+// (d) No fmt::Write: what write! promises of the bytes holds only where it answers Ok, and nothing promises that it does.
+pub struct Page<'a> {
+    out: &'a mut [u8],
+    at: usize,
 }
 
-fn put_byte(out: &mut [u8], at: usize, b: u8) -> usize
-    ensures { Laid out.old at (b ∷ []) out.new result }
-{
-    if at < out.len() {
-        out[at] = b;
-        return next(at);
-    }
-    next(at)
-}
-
-pub fn put_bytes(out: &mut [u8], at: usize, text: &[u8]) -> usize
-    ensures { Laid out.old at text.now out.new result }
-{
-    let mut next = at;
-    let mut i = 0;
-    while i < text.len() {
-        next = put_byte(out, next, text[i]);
-        i += 1;
-    }
-    next
-}
-
+// `0` to `9`, then `A` to `F`.
 fn digit(d: u64) -> u8
-    requires { d < 10 }
-    ensures { result ≡ 48 + d }
-{
-    48 + d as u8
-}
-
-fn hex_digit(d: u64) -> u8
     requires { d < 16 }
     ensures { result ≡ hex_digit d }
 {
     if d < 10 { 48 + d as u8 } else { 55 + d as u8 }
 }
 
-// The most significant digit first, and never a `0` in front of another.
-fn put_decimal(out: &mut [u8], at: usize, n: u64) -> usize
-    ensures { Laid out.old at (decimal n) out.new result }
-{
-    if n < 10 {
-        return put_byte(out, at, digit(n));
-    }
-    let next = put_decimal(out, at, n / 10);
-    put_byte(out, next, digit(n % 10))
-}
-
-// The last k hex digits.
-fn put_hex(out: &mut [u8], at: usize, k: usize, n: u64) -> usize
-    ensures { Laid out.old at (hex_digits k n) out.new result }
-{
-    if k == 0 {
-        return at;
-    }
-    let next = put_hex(out, at, k - 1, n / 16);
-    put_byte(out, next, hex_digit(n % 16))
-}
-
-// A number and a byte after it.
-pub fn put_number(out: &mut [u8], at: usize, n: u64, after: u8) -> usize
-    ensures { Laid out.old at (decimal n ++ (after ∷ [])) out.new result }
-{
-    let a = put_decimal(out, at, n);
-    put_byte(out, a, after)
-}
-
 // Whole in 0 to 2^53.
+#[tactic(auto, unfolding(crate::specs::Digits::is_count))]
 fn is_count(x: f64) -> bool
     ensures { result ≡ is_count x }
 {
@@ -94,28 +36,89 @@ fn is_count(x: f64) -> bool
 }
 
 // A count as a whole number.
-fn whole(x: f64) -> u64
-    requires { is_count x ≡ true }
-    ensures { result ≡ to_unsigned 64 x }
-{
-    std::num::truncating_f64_to_u64(x)
-}
-
-// `bits` and 16 hex digits, and a newline.
-fn put_bits(out: &mut [u8], at: usize, n: u64) -> usize
-    ensures { Laid out.old at ((bits_word ++ hex_digits 16 n) ++ newline) out.new result }
-{
-    let a = put_bytes(out, at, b"bits ");
-    let b = put_hex(out, a, 16, n);
-    put_byte(out, b, NEWLINE)
-}
-
-// A count in decimal, every other number by its bits; and a newline.
-pub fn put_shown(out: &mut [u8], at: usize, x: f64) -> usize
-    ensures { Laid out.old at (shown x ++ newline) out.new result }
+#[tactic(auto, using(crate::proofs::Counts::count_above, crate::proofs::Counts::count_below))]
+fn as_count(x: f64) -> Option<u64>
+    ensures { SomeIff result (is_count x ≡ true) (to_unsigned 64 x) }
 {
     if is_count(x) {
-        return put_number(out, at, whole(x), NEWLINE);
+        Some(std::num::truncating_f64_to_u64(x))
+    } else {
+        None
     }
-    put_bits(out, at, float::to_bits(x))
+}
+
+impl<'a> Page<'a> {
+    // A slice from an offset on.
+    pub fn new(out: &'a mut [u8], at: usize) -> Page<'a>
+        ensures { Begins out.entry at result }
+    {
+        Page { out, at }
+    }
+
+    // The offset behind all that was laid.
+    pub fn end(&self) -> usize
+        ensures { result ≡ self.now.at }
+    {
+        self.at
+    }
+
+    fn put_byte(&mut self, b: u8)
+        ensures { Lays self.old (b ∷ []) self.new }
+    {
+        let Page { out, at } = self;
+        if *at < out.len() {
+            out[*at] = b;
+        }
+        *at = at.saturating_add(1);
+    }
+
+    pub fn put_bytes(&mut self, text: &[u8])
+        ensures { Lays self.old text.now self.new }
+    {
+        for b in text {
+            self.put_byte(*b);
+        }
+    }
+
+    // The digits of n, the most significant first: at least so many, so `0` is in front of another only where n has fewer.
+    fn put_digits(&mut self, base: u64, least: usize, n: u64)
+        requires { (1 < base) × (base ≤ 16) }
+        ensures decimal { base ≡ 10 → least ≤ 1 → Lays self.old (decimal n) self.new }
+        ensures hex { base ≡ 16 → 0 < least → n < 16 ^ least → Lays self.old (hex_digits least n) self.new }
+    {
+        if (n < base) & (least < 2) {
+            self.put_byte(digit(n));
+            return;
+        }
+        self.put_digits(base, least.saturating_sub(1), n / base);
+        self.put_byte(digit(n % base));
+    }
+
+    // A number and a byte after it.
+    pub fn put_number(&mut self, n: u64, after: u8)
+        ensures { Lays self.old (decimal n ++ (after ∷ [])) self.new }
+    {
+        self.put_digits(10, 1, n);
+        self.put_byte(after);
+    }
+
+    // `bits` and 16 hex digits, and a newline.
+    fn put_bits(&mut self, n: u64)
+        ensures { Lays self.old ((bits_word ++ hex_digits 16 n) ++ newline) self.new }
+    {
+        self.put_bytes(b"bits ");
+        self.put_digits(16, 16, n);
+        self.put_byte(NEWLINE);
+    }
+
+    // A count in decimal, every other number by its bits; and a newline.
+    #[tactic(auto, using(crate::proofs::Counts::shown_count))]
+    pub fn put_shown(&mut self, x: f64)
+        ensures { Lays self.old (shown x ++ newline) self.new }
+    {
+        match as_count(x) {
+            Some(n) => self.put_number(n, NEWLINE),
+            None => self.put_bits(float::to_bits(x)),
+        }
+    }
 }

@@ -5,7 +5,8 @@ use mathlib.Core.List.{List}
 use Prim.Native.Nat.{ℕ, suc, ◌+◌, ◌*◌, ◌≤◌, ◌<◌}
 use native.Mathlib.Numerals.{add-one}
 use native.Mathlib.Omega.{arith}
-use borrow.Author.Tests.{eqb-true, leb-true, leb-false, le-leb, lt-leb, lt-ltb, le-ltb, ltb-false}
+use borrow.Author.Tests.{eqb-true, leb-true, leb-false, le-leb, lt-leb, lt-ltb, le-ltb}
+use Rattle.std.specs.Int.{div_ceil}
 use lib.Dec.{eqb, leb, ltb}
 use lib.ListN.{length, set}
 use lib.Ieee.{Float}
@@ -13,28 +14,47 @@ use Rattle.float.specs.Float.{f64zero}
 use Rattle.layout.specs.Place.{blocks_over, cell_at, corner, is_cell, in_blocks}
 use Rattle.layout.specs.Written.{cleared_table}
 use Rattle.layout.specs.private.Cleared.{first_cleared, cleared_from}
-use Rattle.layout.proofs.Entries.{below_suc, from_suc}
-use Rattle.layout.proofs.Places.{line_inside, cells_in_order}
+use Rattle.layout.proofs.Entries.{below_suc}
+use Rattle.layout.proofs.Places.{line_inside, row_reached}
 use Rattle.layout.proofs.Blocks.{length_blocks, corner_blocks, blocks_are, blocks_same, set_blocks}
 
--- ---- a row, from its last cell on
+-- ---- a row, cell by cell
 
-one_more : (a : Bool) (c n : ℕ) (y : Float) → cond (a && eqb c n) f64zero (cond (a && leb (suc n) c) f64zero y) ≡ cond (a && leb n c) f64zero y
-one_more false c n y = refl
-one_more true c n y = go (eqb c n) refl
-  where
-    go : (t : Bool) → eqb c n ≡ t → cond t f64zero (cond (leb (suc n) c) f64zero y) ≡ cond (leb n c) f64zero y
-    go true e = rw (le-leb n c (omega (arith, eqb-true c n e)))
-    go false e = rw (from_suc n c _ e refl)
+module _ (w r : ℕ) (t : List Float) (from : ℕ) where
+  -- the cells before column n are cleared
+  abbrev pub row_cleared : ℕ → List Float
+  row_cleared n = in_blocks w (length t) (λ s c. cond (eqb s r && (leb from c && ltb c n)) f64zero (corner w t s c))
 
-module _ (w r : ℕ) (t : List Float) where
-  pub clear_start : t ≡ cleared_from w t r (blocks_over w * 8)
+  pub clear_start : t ≡ row_cleared from
+  clear_start = blocks_are w (length t) _ t refl (λ s c k l. rw (none c, and-false))
+    where
+      none : (c : ℕ) → leb from c && ltb c from ≡ false
+      none c = go (leb from c) refl
+        where
+          go : (b : Bool) → leb from c ≡ b → b && ltb c from ≡ false
+          go true e = le-ltb c from (leb-true from c e)
+          go false e = refl
+
+  one_more : (a : Bool) (n c : ℕ) (y : Float) → from ≤ n
+      → cond (a && eqb c n) f64zero (cond (a && (leb from c && ltb c n)) f64zero y) ≡ cond (a && (leb from c && ltb c (suc n))) f64zero y
+  one_more false n c y h = refl
+  one_more true n c y h = go (eqb c n) refl
+    where
+      go : (b : Bool) → eqb c n ≡ b → cond b f64zero (cond (leb from c && ltb c n) f64zero y) ≡ cond (leb from c && ltb c (suc n)) f64zero y
+      go true e = let q = eqb-true c n e in rw (le-leb from c (omega arith), lt-ltb c (suc n) (omega arith))
+      go false e = rw (below_suc c n _ e refl)
+
+  pub clear_turn : (n : ℕ) → from ≤ n → n < blocks_over w * 8 → set (row_cleared n) (cell_at w r n) f64zero ≡ row_cleared (n + 1)
+  clear_turn n a b =
+      rw (add-one n) (set_blocks w (length t) _ r n f64zero b ∙ blocks_same w (length t) _ _ (λ s c k l. one_more (eqb s r) n c (corner w t s c) a))
+
+  pub clear_end : (n : ℕ) → n ≡ blocks_over w * 8 → row_cleared n ≡ cleared_from w t r from
   unfolding cleared_from
-  clear_start = blocks_are w (length t) _ t refl (λ s c k l. rw (lt-leb (blocks_over w * 8) c k, and-false))
-
-  pub clear_turn : (n : ℕ) → n < blocks_over w * 8 → set (cleared_from w t r (suc n)) (cell_at w r n) f64zero ≡ cleared_from w t r n
-  unfolding cleared_from
-  clear_turn n h = set_blocks w (length t) _ r n f64zero h ∙ blocks_same w (length t) _ _ (λ s c k l. one_more (eqb s r) c n (corner w t s c))
+  clear_end n e = blocks_same w (length t) _ _ (λ s c k l. rw (lt-ltb c n (omega arith), all (leb from c)))
+    where
+      all : (b : Bool) → b && true ≡ b
+      all true = refl
+      all false = refl
 
 -- ---- rows from the first on
 
@@ -80,17 +100,12 @@ module _ (w h : ℕ) (t : List Float) where
       rw (length_blocks w (length t) _, add-one n)
       (blocks_same w (length t) _ _ (λ r c k l. rw (corner_blocks w (length t) _ r c k l) (row_more n r c _ refl (corner w t r c))))
 
-  pub rows_end : (n : ℕ) → length t ≤ cell_at w n 0 → rows_cleared n ≡ cleared_table w h t
+  pub rows_end : (n : ℕ) → n ≡ div_ceil (length t) (blocks_over w * 64) → rows_cleared (n * 8) ≡ cleared_table w h t
   unfolding cleared_table
-  rows_end n l = blocks_same w (length t) _ _ (λ r c k i. rw (before r c i) (either (leb 1 r && is_cell w h r c) f64zero (corner w t r c)))
+  rows_end n e =
+      blocks_same w (length t) _ _
+      (λ r c k i. rw (lt-ltb r (n * 8) (row_reached w (length t) n e r c i)) (either (leb 1 r && is_cell w h r c) f64zero (corner w t r c)))
     where
-      before : (r c : ℕ) → cell_at w r c < length t → ltb r n ≡ true
-      before r c i = go (ltb r n) refl
-        where
-          go : (b : Bool) → ltb r n ≡ b → ltb r n ≡ true
-          go true e = e
-          go false e = absurd (omega (arith, cells_in_order w n r 0 c (ltb-false r n e) (omega arith)))
-
       either : (b : Bool) (x y : Float) → cond (not b) x y ≡ cond b y x
       either true x y = refl
       either false x y = refl

@@ -3,11 +3,11 @@ use mathlib.Core.Path.{◌≡◌, refl, sym, ap, ◌∙◌}
 use mathlib.Core.Bool.{Bool, true, false}
 use mathlib.Core.List.{List, ◌++◌, append-nil}
 use Prim.Native.Nat.{ℕ, zero, suc, ◌+◌, ◌<◌, ◌≤◌}
-use native.Mathlib.Nat.{add-zero, zero-add, le_of_suc-le-suc}
+use native.Mathlib.Nat.{add-zero, zero-add}
 use native.Mathlib.Numerals.{add-one, lt_of_le_of_ne}
 use native.Mathlib.Omega.{arith}
-use borrow.Author.Tests.{eqb-false, leb-true, leb-false, ltb-true, ltb-false, le-leb, lt-leb, lt-ltb, le-ltb}
-use lib.Dec.{eqb, leb, ltb}
+use borrow.Author.Tests.{eqb-false, ltb-true, ltb-false, lt-ltb, le-ltb}
+use lib.Dec.{eqb, ltb}
 use lib.ListN.{length, take, drop, set, get_or, drop_of_length-le}
 use lib.Seq.{ext_get_or, drop-cons, take-suc, take_all, append_snoc, set_at, length-take-le}
 use lib.Ieee.{Float, nan}
@@ -64,8 +64,3 @@ module _ (f : ℕ → Float) (dst : List Float) where
 pub below_suc : (d n : ℕ) (t : Bool) → eqb d n ≡ false → ltb d n ≡ t → ltb d (suc n) ≡ t
 below_suc d n true h e = lt-ltb d (suc n) (omega (arith, ltb-true d n e))
 below_suc d n false h e = le-ltb d (suc n) (lt_of_le_of_ne (ltb-false d n e) (λ z. eqb-false d n h (sym z)))
-
--- from n on is n, or from n + 1 on
-pub from_suc : (n d : ℕ) (t : Bool) → eqb d n ≡ false → leb (suc n) d ≡ t → leb n d ≡ t
-from_suc n d true h e = le-leb n d (omega (arith, leb-true (suc n) d e))
-from_suc n d false h e = lt-leb n d (lt_of_le_of_ne (le_of_suc-le-suc (leb-false (suc n) d e)) (eqb-false d n h))

@@ -9,7 +9,7 @@ use lib.ListN.{length, get_or, set}
 use lib.Ieee.{Float, nan}
 use Rattle.refusal.specs.Refusal.{passed, not_its_makers, wrong_table_length}
 use Rattle.refusal.proofs.Chains.{first_passed}
-use Rattle.refusal.proofs.Tests.{both}
+use Rattle.std.proofs.lemmas.Bool.{and_parts}
 use Rattle.float.specs.Float.{f64zero}
 use Rattle.grid.specs.declared.Grid.{Grid}
 use Rattle.grid.specs.Grid.{valid_grid}
@@ -21,7 +21,7 @@ use Rattle.layout.specs.private.Sized.{Sized}
 use Rattle.layout.proofs.Entries.{length_entries, get_or_entries, entries_are, copied, entries_turn, entries_end}
 use Rattle.layout.proofs.Places.{line_inside, cell_inside, place_row, right_length}
 use Rattle.layout.proofs.Rows.{row_of_row_cell, column_of_row_cell, row_cell_of_place, row_cell_inside, row_column_inside, row_row_inside}
-use Rattle.layout.proofs.Rows.{right_row_length}
+use Rattle.layout.proofs.Rows.{right_row_length, row_place_is}
 use Rattle.layout.proofs.Blocks.{length_blocks, corner_blocks, blocks_are, blocks_turn, blocks_end}
 
 module _ (w h : ℕ) where
@@ -30,7 +30,11 @@ module _ (w h : ℕ) where
   is_cell_lem r c k l = rw (le-leb r h k, le-leb c w l)
 
   pub cell_is : (r c : ℕ) → is_cell w h r c ≡ true → (r ≤ h) × (c ≤ w)
-  cell_is r c e = let b = both (leb r h) (leb c w) e in (leb-true _ _ b.0, leb-true _ _ b.1)
+  cell_is r c e = let b = and_parts (leb r h) (leb c w) e in (leb-true _ _ b.0, leb-true _ _ b.1)
+
+  -- within the row layout, as the code works its place out
+  pub row_cell_within : (r c n : ℕ) → is_cell w h r c ≡ true → n ≡ row_length w h → r * (w + 1) + c < n
+  row_cell_within r c n e l = let b = cell_is r c e in rw (l, row_place_is) (row_cell_inside w h r c b.0 b.1)
 
   pub length_to_blocks : (rows : List Float) → length (to_blocks w h rows) ≡ payload_length w h
   unfolding to_blocks
@@ -88,6 +92,10 @@ module _ (w h : ℕ) where
   pub row_on : (at r c : ℕ) → row_cell_at w r c ≡ at → c ≤ w → at < row_length w h → r ≤ h
   row_on at r c e k l = rw (← e, row_of_row_cell w r c k) at (row_row_inside w h at l)
 
+  -- and has a place in blocks
+  pub row_within : (at r c n : ℕ) → row_cell_at w r c ≡ at → c ≤ w → at < row_length w h → n ≡ payload_length w h → cell_at w r c < n
+  row_within at r c n e k l s = rw s (cell_inside w h r c (row_on at r c e k l) k)
+
   module _ (blocks dst : List Float) (size : length dst ≡ row_length w h) where
     pub row_turn : (at r c : ℕ) (x : Float) → row_cell_at w r c ≡ at → c ≤ w → at < row_length w h → x ≡ corner w blocks r c
         → set (copied dst (to_rows w h blocks) at) at x ≡ copied dst (to_rows w h blocks) (at + 1)
@@ -108,6 +116,6 @@ unfolding map_refusal
 map_sized g rows blocks e =
     let p = first_passed (not (valid_grid g)) not_its_makers _ tt e in
     let q = first_passed (not (right_rows g rows && right_table g blocks)) wrong_table_length passed tt p.1 in
-    let right = both (right_rows g rows) (right_table g blocks) (not-false _ q.0) in
+    let right = and_parts (right_rows g rows) (right_table g blocks) (not-false _ q.0) in
     let s = grid_sized g (not-false (valid_grid g) p.0) in
     record { columns = s.columns; lines = s.lines; rows = right_row_length g rows right.0; blocks = right_length g blocks right.1 }

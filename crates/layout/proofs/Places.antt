@@ -7,6 +7,9 @@ use Prim.Native.Nat.{ℕ, suc, ◌+◌, ◌-◌, ◌*◌, ◌/◌, ◌%◌, ◌�
 use native.Mathlib.Nat.{eq-or-lt_of_le, zero-mul, suc-mul, mul_comm, mul_assoc, mul_left_comm, mul-le-mul, mul-le-mul_left, mul-le-mul_right}
 use native.Mathlib.Nat.{div-add-mod', mod-lt, div-lt_iff_lt-mul}
 use native.Mathlib.Omega.{arith}
+use Rattle.std.specs.Int.{div_ceil}
+use Rattle.std.proofs.lemmas.Grind.{div_ceil_times}
+use native.Mathlib.Nat.{div-le_self, lt_of_mul-lt-mul_right}
 use borrow.Author.Tests.{ltb-true, ltb-false, lt-ltb, le-ltb, eqb-true, eqb-false, eq-eqb, ne_eqb}
 use lib.Arith.{digits_lt, digits_div, digits_mod}
 use lib.Dec.{eqb, ltb}
@@ -134,6 +137,27 @@ cells_in_order w r s c d l k = ⊎_elim same north (eq-or-lt_of_le {n = r / 8} {
     north : r / 8 < s / 8 → cell_at w r c ≤ cell_at w s d
     north e = omega (arith, mul-le-mul_right (blocks_over w) e, suc-mul (r / 8) (blocks_over w), some_block w)
 
+-- ---- so many rows of blocks hold so many places, of which the last may lack some
+
+module _ (w t n : ℕ) (e : n ≡ div_ceil t (blocks_over w * 64)) where
+  hold : (t ≤ n * (blocks_over w * 64)) × (n * (blocks_over w * 64) < t + blocks_over w * 64)
+  hold = let some = some_block w in rw e (div_ceil_times t (blocks_over w * 64) (omega arith))
+
+  pub few_held : n ≤ t + 1
+  few_held = omega (arith, e, div-le_self t (blocks_over w * 64))
+
+  pub row_near : (r : ℕ) → r < n * 8 → cell_at w r 0 < t + 64
+  unfolding cell_at
+  row_near r l =
+      let q : suc (r / 8) ≤ n = omega arith in
+      omega (arith, mul-le-mul_right (blocks_over w * 64) q, suc-mul (r / 8) (blocks_over w * 64), mul_assoc (r / 8) (blocks_over w) 64, hold)
+
+  pub row_reached : (r c : ℕ) → cell_at w r c < t → r < n * 8
+  unfolding cell_at
+  row_reached r c l =
+      let q : r / 8 < n = lt_of_mul-lt-mul_right (blocks_over w * 64) (omega (arith, l, mul_assoc (r / 8) (blocks_over w) 64, hold)) in
+      omega arith
+
 -- ---- as many places as a table has
 
 module _ (g : Grid) (cells : List Float) where
@@ -201,13 +225,9 @@ module _ (w h a b : ℕ) (ea : a ≡ blocks_over w) (eb : b ≡ blocks_over h) w
   pub blocks_fit : w ≤ 0xffff_ffff → h ≤ 0xffff_ffff → a * b ≤ 0x400_0000_0000_0000
   blocks_fit k l = rw (ea, eb) (omega (arith, mul-le-mul (few_blocks w k) (few_blocks h l)))
 
-  pub length_most : 0x3ff_ffff_ffff_ffff < a * b → most ≡ min (payload_length w h) most
+  pub length_most : min (a * b * 64) most ≡ min (payload_length w h) most
   unfolding payload_length
-  length_most k = rw (← ea, ← eb) (omega arith)
-
-  pub length_fits : a * b ≤ 0x3ff_ffff_ffff_ffff → 64 * (a * b) ≡ min (payload_length w h) most
-  unfolding payload_length
-  length_fits k = rw (← ea, ← eb) (omega arith)
+  length_most = rw (← ea, ← eb) (omega arith)
 
 -- the payload length over a grid fits
 pub length_held : (w h : ℕ) → w ≤ limit → h ≤ limit → min (payload_length w h) most ≡ payload_length w h
@@ -237,22 +257,10 @@ over_held n t l = go (ltb n t) refl
     go true q = lt-ltb n (min t most) (omega (arith, ltb-true n t q))
     go false q = le-ltb n (min t most) (omega (arith, ltb-false n t q))
 
--- a table row spans its row of blocks, and the next one starts no farther
+-- a table row spans its row of blocks
 pub row_spans : (w r c : ℕ) → c < blocks_over w * 8 → cell_at w r c < cell_at w r 0 + 64 * blocks_over w
 unfolding cell_at
 row_spans w r c k = omega arith
-
-pub row_behind : (w r : ℕ) → cell_at w (suc r) 0 ≤ cell_at w r 0 + 64 * blocks_over w
-unfolding cell_at
-row_behind w r = ⊎_elim same south (eq-or-lt_of_le {n = r / 8} {m = suc r / 8} (omega arith))
-  where
-    same : r / 8 ≡ suc r / 8 → cell_at w (suc r) 0 ≤ cell_at w r 0 + 64 * blocks_over w
-    same e = rw (← e) (omega arith)
-
-    south : r / 8 < suc r / 8 → cell_at w (suc r) 0 ≤ cell_at w r 0 + 64 * blocks_over w
-    south e =
-        let next : suc r / 8 ≡ suc (r / 8) = omega arith in
-        rw (next, suc-mul (r / 8) (blocks_over w)) (omega arith)
 
 -- a cell is at least as far as its row
 pub row_before : (w r c : ℕ) → r ≤ cell_at w r c

@@ -1,14 +1,12 @@
 -- Document 02, C-16: the full map, from row layout to blocks and from blocks to row layout.
 use Rattle.std.specs.Prelude.{◌≡◌, false, not, cond, ◌&&◌, List, ℕ, suc, ◌*◌, ◌/◌, ◌%◌, ◌<◌, Float}
-use Rattle.refusal.specs.Refusal.{Outcome, answered, refused, first, passed, outcome, unless_refused, not_its_makers, wrong_table_length}
+use Rattle.refusal.specs.Refusal.{Outcome, first, passed, outcome, unless_refused, not_its_makers, wrong_table_length}
 use Rattle.float.specs.Float.{f64zero}
 use Rattle.grid.specs.declared.Grid.{Grid}
 use Rattle.grid.specs.Grid.{valid_grid}
 use Rattle.layout.specs.Entries.{entries}
 use Rattle.layout.specs.Place.{blocks_over, payload_length, corner, right_table, is_cell, in_blocks}
 use Rattle.layout.specs.Rows.{row_length, row_corner, right_rows}
-use Rattle.layout.specs.declared.MapAnswer.{MapAnswer}
-use Rattle.layout.specs.declared.MapAnswer.TheVariants as map
 
 -- row layout to blocks, with +0.0 past the edge
 unfoldable pub to_blocks : ℕ → ℕ → List Float → List Float
@@ -28,11 +26,6 @@ EdgeZero width height blocks =
 
 unfoldable pub map_refusal : Grid → List Float → List Float → ℕ
 map_refusal g rows blocks = first (not (valid_grid g)) not_its_makers (first (not (right_rows g rows && right_table g blocks)) wrong_table_length passed)
-
--- what the answers are in document 01's terms: nothing but that it was done
-abbrev pub map_outcome : MapAnswer → Outcome (Unit {0})
-map_outcome map.Done = answered tt
-map_outcome (map.Refused n) = refused n
 
 -- what a call gives, and what it leaves in the buffer that it writes; the other is only read
 pub record MapCall : Type 0 where

@@ -11,13 +11,6 @@ pub use map::{to_blocks, to_rows};
 pub use place::{cell_at, payload_len, run_at};
 pub use start::clear_edges;
 
-// What a call of the map gives: it is done, or the refusal's number.
-#[derive(Clone, Copy)]
-pub enum MapAnswer {
-    Done,
-    Refused(u32),
-}
-
 // A table row and a table column, of which there is one more than the grid has.
 #[derive(Clone, Copy)]
 struct TableCell {

@@ -5,7 +5,8 @@ ghost use Rattle.layout.specs.Place.{blocks_over, cell_at};
 ghost use Rattle.layout.specs.Written.{cleared_table};
 ghost use Rattle.layout.specs.private.Cleared.{first_cleared, cleared_from};
 
-use crate::place::{blocks_over, place};
+use crate::TableCell;
+use crate::place::blocks_over;
 use grid::Grid;
 
 // A place past the end is left.
@@ -22,10 +23,8 @@ fn clear_from(table: &mut [f64], width: u32, row: usize, from: usize)
     requires { (cell_at width row 0 < 0x2000_0000_0000_0000) × (from ≤ blocks_over width * 8) }
     ensures { table.new ≡ cleared_from width table.old row from }
 {
-    let mut col = blocks_over(width) * 8;
-    while from < col {
-        col -= 1;
-        clear(table, place(width, row, col));
+    for col in from..blocks_over(width) * 8 {
+        clear(table, TableCell { row, col }.place(width));
     }
 }
 
@@ -44,11 +43,9 @@ fn first_cleared(grid: Grid, row: usize) -> usize
 pub fn clear_edges(grid: Grid, table: &mut [f64])
     ensures { table.new ≡ cleared_table grid.width grid.height table.old }
 {
-    let mut row = 0;
-    let mut start = 0;
-    while start < table.len() {
+    // whole rows of blocks, of which the last may be cut short
+    let rows = table.len().div_ceil(blocks_over(grid.width) * 64) * 8;
+    for row in 0..rows {
         clear_from(table, grid.width, row, first_cleared(grid, row));
-        row += 1;
-        start = place(grid.width, row, 0);
     }
 }

@@ -25,6 +25,7 @@ fn check(km: f64) -> Result<(), Refusal>
 }
 
 // Never narrower than km, and the widest radius where the sum is not finite: who widens wants a bound.
+#[tactic(auto, unfolding(crate::specs::Radius::widened))]
 fn widened(km: f64, more: f64) -> f64
     ensures { result ≡ widened_of km more }
 {
@@ -43,13 +44,6 @@ impl RadiusKm {
     {
         check(km)?;
         Ok(RadiusKm(km))
-    }
-
-    // A whole number of km is always a length.
-    pub fn from_u32(km: u32) -> RadiusKm
-        ensures { result.0 ≡ f64of km }
-    {
-        RadiusKm(km as f64)
     }
 
     pub fn km(self) -> f64
@@ -73,5 +67,14 @@ impl RadiusKm {
     {
         refuse_if(!self.is_valid(), Refusal::NotItsMakers)?;
         Ok(RadiusKm(widened(self.0, km)))
+    }
+}
+
+// A whole number of km is always a length.
+impl From<u32> for RadiusKm {
+    ghost from_gives = { λ km r. r.0 ≡ f64of km };
+
+    fn from(km: u32) -> RadiusKm {
+        RadiusKm(km as f64)
     }
 }

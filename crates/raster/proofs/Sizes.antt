@@ -91,7 +91,7 @@ two_zeros b h e = go (b / 0x8000_0000) refl
     go (suc zero) w = inr (omega arith)
     go (suc (suc q)) w = absurd (omega arith)
 
--- the test that the code makes
+-- the pattern of a zero or a NaN, without the sign
 abbrev zero_or_nan : ℕ → Bool
 zero_or_nan size = eqb size 0 || ltb 0x7f80_0000 size
 
@@ -171,3 +171,6 @@ module _ (b : ℕ) (h : b < 2 ^ 32) (test : zero_or_nan (b % 0x8000_0000) ≡ fa
   populated l =
       let e : leb 0x8000_0000 b ≡ false = lt-leb 0x8000_0000 b (omega arith) in
       rw zero_is (sided.0 ∙ e, sided.1 ∙ ap not e)
+
+-- what the code's match asks for
+pub ruleset kinds = (unbounded, bounded, neither, negative, populated)

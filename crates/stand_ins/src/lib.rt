@@ -8,6 +8,10 @@ ghost use Rattle.float.specs.Float.{f64zero, f64one, f64of};
 ghost use Rattle.stand_ins.specs.StandIns.{IsTurn, downward, sine_term, sin_of, cosine_term, cos_of, arctan_term, halved as halved_of, arctan_of, atan2_of, acos_of};
 ghost use Rattle.stand_ins.specs.StandIns.{to_radians, to_degrees};
 
+mod pairs;
+
+pub use pairs::{Pair, cosines, sines};
+
 pub const PI: f64 = 3.141592653589793;
 
 // How many turns a series takes: all, but at 0 a few, which give what all give. So the compiler does not know the number, and the
@@ -23,7 +27,7 @@ fn turns(x: f64, few: u32, all: u32) -> u32
 }
 
 // A series from its last term inward: s after the turns from, from − 1, .., 1.
-pub fn downward<T, F: Fn(u32, T) -> T>(turn: F, from: u32, seed: T) -> T
+fn downward<T, F: Fn(u32, T) -> T>(turn: F, from: u32, seed: T) -> T
     requires { (k : ℕ) (s : T) → 0 < k → k ≤ from → F.pre turn k s }
     ensures { (by : ℕ → T → T) → IsTurn (F.post turn) by → result ≡ downward by from seed }
 {
@@ -36,7 +40,7 @@ pub fn downward<T, F: Fn(u32, T) -> T>(turn: F, from: u32, seed: T) -> T
 
 // One turn of the sine.
 #[tactic(auto, unfolding(crate::specs::StandIns::sine_term))]
-pub fn sine_term(z: f64, k: u32, s: f64) -> f64
+fn sine_term(z: f64, k: u32, s: f64) -> f64
     requires { k ≤ 15 }
     ensures { result ≡ sine_term z k s }
 {
@@ -52,7 +56,7 @@ pub fn sin(x: f64) -> f64
 
 // One turn of the cosine.
 #[tactic(auto, unfolding(crate::specs::StandIns::cosine_term))]
-pub fn cosine_term(z: f64, k: u32, c: f64) -> f64
+fn cosine_term(z: f64, k: u32, c: f64) -> f64
     requires { (0 < k) × (k ≤ 15) }
     ensures { result ≡ cosine_term z k c }
 {

@@ -1,7 +1,7 @@
 // A row goes into the column sums and the digest (`build` of table.rs).
 #![tactic(auto)]
 
-ghost use Rattle.std.specs.Prelude.{◌≡◌, ◌++◌, ◌≤◌, ◌-◌, min, length, take, drop};
+ghost use Rattle.std.specs.Prelude.{◌≡◌};
 ghost use Rattle.digest.specs.Digest.{digest_of};
 ghost use Rattle.raster.specs.Raster.{sanitised_row, row_tallies, plus_tallies, held_tallies};
 ghost use Rattle.sweep.specs.Sweep.{taken_in, acc_after, corr_after};
@@ -11,93 +11,75 @@ use float::TwoSum;
 use raster::CellTallies;
 
 // What a row gives: the digest with its cells, and its tallies.
-#[derive(Clone, Copy)]
+#[derive(Clone, Copy, PartialEq, Eq, Debug)]
 pub struct Swept {
     pub digest: u64,
     pub tallies: CellTallies,
 }
 
-// What a row carries from cell to cell: its running prefix with its correction, the digest, the tallies.
+// What a row carries from cell to cell: its running prefix with its correction, and what it gives so far.
 #[derive(Clone, Copy)]
 struct Carry {
-    prefix: f64,
-    corr: f64,
-    digest: u64,
-    tallies: CellTallies,
+    prefix: TwoSum,
+    so_far: Swept,
 }
 
-// A column after a cell, the cell as sanitised, and what the row carries on.
+// A column's sum with its correction after a cell, the cell as sanitised, and what the row carries on.
 #[derive(Clone, Copy)]
 struct Column {
-    acc: f64,
-    corr: f64,
+    after: TwoSum,
     cell: u32,
     carry: Carry,
 }
 
 // A sum with its correction takes in x. What the sum leaves out is put back in each time, so a column's sum can be
 // handed on as it stands, with no correction to be added to it first.
-fn take_in(sum: f64, corr: f64, x: f64) -> TwoSum
-    ensures { result ≡ taken_in sum corr x }
+#[tactic(auto, unfolding(crate::specs::Sweep::taken_in))]
+fn take_in(before: TwoSum, x: f64) -> TwoSum
+    ensures { result ≡ taken_in before.sum before.dropped x }
 {
-    let t = float::two_sum(sum, x);
-    float::two_sum(t.sum, corr + t.dropped)
+    let with_x = float::two_sum(before.sum, x);
+    float::two_sum(with_x.sum, before.dropped + with_x.dropped)
 }
 
 // One cell is sanitised, tallied and goes into the digest; the row's prefix takes it in, then the column takes in the
 // prefix. The sums wait for each other, and all the rest runs meanwhile.
-fn sweep_cell(s: Carry, bits: u32, nodata: u32, acc: f64, corr: f64) -> Column
-    ensures { result ≡ swept nodata s bits acc corr }
+#[tactic(auto, unfolding(crate::specs::private::Cell::swept))]
+fn sweep_cell(carry: Carry, bits: u32, nodata: u32, before: TwoSum) -> Column
+    ensures { result ≡ swept nodata carry bits before.sum before.dropped }
 {
     let kind = raster::classify(bits, nodata);
     let cell = raster::keep(kind, bits);
-    let p = take_in(s.prefix, s.corr, float::widen(cell));
-    let q = take_in(acc, corr, p.sum);
+    let prefix = take_in(carry.prefix, float::widen(cell));
     Column {
-        acc: q.sum,
-        corr: q.dropped,
+        after: take_in(before, prefix.sum),
         cell,
         carry: Carry {
-            prefix: p.sum,
-            corr: p.dropped,
-            digest: digest::mix(s.digest, cell),
-            tallies: s.tallies.with(kind),
+            prefix,
+            so_far: Swept {
+                digest: digest::mix(carry.so_far.digest, cell),
+                tallies: carry.so_far.tallies.with(kind),
+            },
         },
     }
 }
 
-fn shorter(a: usize, b: usize) -> usize
-    ensures { result ≡ min a b }
+// The rest of a row has no columns: its cells are sanitised, tallied and go into the digest.
+fn finish(rest: &mut [u32], nodata: u32, so_far: Swept) -> Swept
+    ensures { (result.digest ≡ digest_of so_far.digest (sanitised_row nodata rest.old))
+        × (result.tallies ≡ held_tallies (plus_tallies so_far.tallies (row_tallies nodata rest.old)))
+        × (rest.new ≡ sanitised_row nodata rest.old) }
 {
-    if a <= b { a } else { b }
-}
-
-// How many cells have a column: the first cell of accumulator and corrections belongs to none.
-fn columns(acc: usize, corr: usize, row: usize) -> usize
-    ensures { result ≡ min row (min acc corr - 1) }
-{
-    let n = shorter(acc, corr);
-    if n == 0 {
-        return 0;
-    }
-    shorter(row, n - 1)
-}
-
-// The cells from i on have no column: they are sanitised, tallied and go into the digest.
-fn finish(row: &mut [u32], i: usize, nodata: u32, s: Carry) -> Swept
-    requires { i ≤ length row.old }
-    ensures { (result.digest ≡ digest_of s.digest (sanitised_row nodata (drop i row.old)))
-        × (result.tallies ≡ held_tallies (plus_tallies s.tallies (row_tallies nodata (drop i row.old))))
-        × (row.new ≡ take i row.old ++ sanitised_row nodata (drop i row.old)) }
-{
-    let tallies = raster::sanitise_row(&mut row[i..], nodata);
+    let tallies = raster::sanitise_row(rest, nodata);
     Swept {
-        digest: digest::digest_row(s.digest, &row[i..]),
-        tallies: s.tallies.plus(tallies),
+        digest: digest::digest_row(so_far.digest, rest),
+        tallies: so_far.tallies.plus(tallies),
     }
 }
 
 // A row is sanitised in place and goes into accumulator and corrections, each cell in one pass over all that becomes of it.
+// The first cell of accumulator and corrections belongs to no column.
+#[tactic(auto, unfolding(crate::specs::Sweep::acc_after, crate::specs::Sweep::corr_after))]
 pub fn sweep_row(
     acc: &mut [f64],
     corr: &mut [f64],
@@ -110,22 +92,29 @@ pub fn sweep_row(
         × (corr.new ≡ corr_after (sanitised_row nodata row.old) acc.old corr.old)
         × (row.new ≡ sanitised_row nodata row.old) }
 {
-    let n = columns(acc.len(), corr.len(), row.len());
-    let mut s = Carry {
-        prefix: 0.0,
-        corr: 0.0,
-        digest,
-        tallies: CellTallies::none(),
+    let columns = acc.len().min(corr.len()).saturating_sub(1);
+    let swept = columns.min(row.len());
+    let mut carry = Carry {
+        prefix: TwoSum {
+            sum: 0.0,
+            dropped: 0.0,
+        },
+        so_far: Swept {
+            digest,
+            tallies: CellTallies::none(),
+        },
     };
-    let mut i = 0;
-    while i < n {
-        let j = i + 1;
-        let c = sweep_cell(s, row[i], nodata, acc[j], corr[j]);
-        row[i] = c.cell;
-        acc[j] = c.acc;
-        corr[j] = c.corr;
-        s = c.carry;
-        i = j;
+    // (c) With the three slices zipped the proof doesn't close: after such a loop it knows nothing of what they hold.
+    for i in 0..swept {
+        let before = TwoSum {
+            sum: acc[i + 1],
+            dropped: corr[i + 1],
+        };
+        let column = sweep_cell(carry, row[i], nodata, before);
+        row[i] = column.cell;
+        acc[i + 1] = column.after.sum;
+        corr[i + 1] = column.after.dropped;
+        carry = column.carry;
     }
-    finish(row, i, nodata, s)
+    finish(&mut row[swept..], nodata, carry.so_far)
 }

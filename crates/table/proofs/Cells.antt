@@ -13,10 +13,9 @@ use lib.Ieee.Fits.{down_pos}
 use lib.Ieee.Scale.{finite}
 use Rattle.refusal.specs.Refusal.{answered, in_no_cell, not_its_makers}
 use Rattle.refusal.proofs.Chains.{never, went_past}
-use Rattle.refusal.proofs.Tests.{both}
+use Rattle.std.proofs.lemmas.Bool.{and_parts}
 use Rattle.float.specs.Float.{f64zero, f64of, index_below}
-use Rattle.float.specs.declared.Index.{Index}
-use Rattle.float.specs.declared.Index.TheVariants.{At, Outside}
+use Rattle.std.specs.Prelude.{Option, Some, None}
 use Rattle.geodesy.specs.declared.LatLon.{LatLon}
 use Rattle.grid.specs.declared.Grid.{Grid}
 use Rattle.grid.specs.Grid.{valid_grid, limit}
@@ -44,26 +43,26 @@ whole_below (fin false m e) (inf t) n p v l = absurd v
 whole_below (fin false m e) (fin true k d) n p v l = absurd (false≢true l)
 whole_below (fin false m e) (fin false k d) n p v l = omega (arith, cut_below m e k d n v.1 (ltb-true _ _ l))
 
-at_below : (t : Bool) (i j : ℕ) → cond t (At i) Outside ≡ At j → (t ≡ true) × (i ≡ j)
+at_below : (t : Bool) (i j : ℕ) → cond t (Some i) None ≡ Some j → (t ≡ true) × (i ≡ j)
 at_below true i j e = (refl, cc)
 at_below false i j e =
     let z : ◌≡◌ {A = ℕ} 0 1 = cc in
     absurd (omega arith)
 
-pub index_below_lem : (x : Float) (n i : ℕ) → 0 < n → n ≤ limit → index_below x n ≡ At i → i < n
+pub index_below_lem : (x : Float) (n i : ℕ) → 0 < n → n ≤ limit → index_below x n ≡ Some i → i < n
 unfolding index_below of_int
 index_below_lem x n i p h e =
     let q = at_below (le f64zero x && lt x (f64of n)) (to_unsigned 32 x) i e in
-    rw (← q.1) (whole_below x (f64of n) n p (round_whole binary64 false n (omega arith)) (both (le f64zero x) (lt x (f64of n)) q.0).1)
+    rw (← q.1) (whole_below x (f64of n) n p (round_whole binary64 false n (omega arith)) (and_parts (le f64zero x) (lt x (f64of n)) q.0).1)
 
 -- ---- a lookup
 
-both_found : (r c : Index) (i j : ℕ) → cell_at_index r c ≡ answered (i, j) → (r ≡ At i) × (c ≡ At j)
-both_found Outside c i j e = never e
-both_found (At r) Outside i j e = never e
-both_found (At r) (At c) i j e =
+both_found : (r c : Option ℕ) (i j : ℕ) → cell_at_index r c ≡ answered (i, j) → (r ≡ Some i) × (c ≡ Some j)
+both_found None c i j e = never e
+both_found (Some r) None i j e = never e
+both_found (Some r) (Some c) i j e =
     let p : ◌≡◌ {A = ℕ × ℕ} (r, c) (i, j) = cc in
-    (ap (λ (x : ℕ × ℕ). At x.0) p, ap (λ (x : ℕ × ℕ). At x.1) p)
+    (ap (λ (x : ℕ × ℕ). Some x.0) p, ap (λ (x : ℕ × ℕ). Some x.1) p)
 
 pub record CellOn (g : Grid) (row col : ℕ) : Type 0 where
   pub valid : valid_grid g ≡ true

@@ -10,15 +10,15 @@ use lib.ListN.{length}
 use lib.Ieee.{Float, nan}
 use Rattle.refusal.specs.Refusal.{answered, first, passed, not_its_makers, wrong_table_length, row_off_grid, column_off_grid}
 use Rattle.refusal.proofs.Chains.{first_passed, answered_passed}
-use Rattle.refusal.proofs.Tests.{both}
+use Rattle.std.proofs.lemmas.Bool.{and_parts}
 use Rattle.grid.specs.declared.Col.{Col}
 use Rattle.grid.specs.declared.Grid.{Grid}
 use Rattle.grid.specs.Grid.{valid_grid}
 use Rattle.grid.proofs.Valid.{grid_sized}
-use Rattle.layout.specs.Place.{cell_at, run_at, payload_length, corner, right_table}
+use Rattle.layout.specs.Place.{run_at, payload_length, corner, right_table}
 use Rattle.layout.proofs.Places.{place_by_row, cells_in_order, cell_inside, right_table_lem, right_length}
 use Rattle.table.specs.private.Held.{Held}
-use Rattle.table.specs.private.Lines.{line_cells}
+use Rattle.table.specs.private.Lines.{LinesOf, line_cells}
 use Rattle.table.specs.declared.Lines.{Lines}
 use Rattle.table.specs.declared.ColSpan.{ColSpan}
 use Rattle.table.specs.declared.ColSpan.TheVariants.{Through, FullTurn}
@@ -41,7 +41,7 @@ rectangle_passed g right rows cols e =
     let p11 = first_passed (not right) wrong_table_length _ tt p22.1 in
     let p15 = first_passed (leb g.height rows.south.0) row_off_grid _ tt p11.1 in
     let p16 = first_passed (not (span_on_grid g.width cols)) column_off_grid passed tt p15.1 in
-    let made = both (valid_grid g) (leb rows.north.0 rows.south.0) (not-false _ p22.0) in
+    let made = and_parts (valid_grid g) (leb rows.north.0 rows.south.0) (not-false _ p22.0) in
     record {
       valid = made.0;
       ordered = leb-true _ _ made.1;
@@ -58,9 +58,9 @@ module _ (g : Grid) (cells : List Float) (rows : RowBand) (cols : ColSpan) where
   pub held_facts : rectangle_held g cells rows cols ≡ true → Held g (length cells) rows cols
   unfolding rectangle_held
   held_facts e =
-      let p = both _ _ e in
-      let q = both _ _ p.0 in
-      let r = both _ _ q.1 in
+      let p = and_parts _ _ e in
+      let q = and_parts _ _ p.0 in
+      let r = and_parts _ _ q.1 in
       record {
         ordered = leb-true _ _ r.0;
         right = right_length g cells q.0;
@@ -98,7 +98,7 @@ module _ (g : Grid) (cells : List Float) (rows : RowBand) (cols : ColSpan) where
 -- both columns of a span are the grid's
 pub span_columns : (width : ℕ) (west east : Col) → span_on_grid width (Through west east) ≡ true → (west.0 < width) × (east.0 < width)
 span_columns width west east e =
-    let p = both (ltb west.0 width) (ltb east.0 width) e in
+    let p = and_parts (ltb west.0 width) (ltb east.0 width) e in
     (ltb-true _ _ p.0, ltb-true _ _ p.1)
 
 module _ (g : Grid) (cells : ℕ) (rows : RowBand) (cols : ColSpan) (h : Held g cells rows cols) where
@@ -106,13 +106,13 @@ module _ (g : Grid) (cells : ℕ) (rows : RowBand) (cols : ColSpan) (h : Held g 
   held_columns west east e = span_columns g.width west east (rw e at h.columns)
 
   -- its table rows are in order, and the last cell of the lower one is in the table
-  module _ (lines : Lines) (e : (lines.top ≡ cell_at g.width rows.north.0 0) × (lines.bottom ≡ cell_at g.width (suc rows.south.0) 0)) where
+  module _ (t : List Float) (size : length t ≡ cells) (lines : Lines) (e : LinesOf g.width rows t lines) where
     pub lines_ordered : lines.top ≤ lines.bottom
-    lines_ordered = rw (e.0, e.1) (cells_in_order g.width _ _ 0 0 (omega (arith, h.ordered)) (omega arith))
+    lines_ordered = rw (e.top, e.bottom) (cells_in_order g.width _ _ 0 0 (omega (arith, h.ordered)) (omega arith))
 
-    pub lines_inside : lines.bottom + run_at g.width < cells
+    pub lines_inside : lines.bottom + run_at g.width < length lines.cells.now
     lines_inside =
-        rw (place_by_row g.width (suc rows.south.0) g.width _ (run_at g.width) e.1 refl, h.right)
+        rw (place_by_row g.width (suc rows.south.0) g.width _ (run_at g.width) e.bottom refl, e.cells, size, h.right)
         (cell_inside g.width g.height (suc rows.south.0) g.width h.south (omega arith))
 
 -- the first piece of its columns ends on the grid
@@ -125,19 +125,19 @@ first_piece w west east l m = go (leb west.0 east.0) refl
     go false e = (omega arith, omega arith)
 
 -- the cells of those rows are the table's
-module _ (w north south : ℕ) (cells : List Float) (lines : Lines)
-    (e : (lines.top ≡ cell_at w north 0) × (lines.bottom ≡ cell_at w (suc south) 0)) where
-  box_by_lines : (a b : ℕ) → box_sum (line_cells cells lines) 0 0 a b ≡ box_sum (corner w cells) north south a b
+module _ (w : ℕ) (rows : RowBand) (cells : List Float) (lines : Lines) (e : LinesOf w rows cells lines) where
+  box_by_lines : (a b : ℕ) → box_sum (line_cells lines) 0 0 a b ≡ box_sum (corner w cells) rows.north.0 rows.south.0 a b
   unfolding box_sum corner
   box_by_lines a b =
       rw (
-        place_by_row w (suc south) b lines.bottom (run_at b) e.1 refl,
-        place_by_row w north b lines.top (run_at b) e.0 refl,
-        place_by_row w (suc south) a lines.bottom (run_at a) e.1 refl,
-        place_by_row w north a lines.top (run_at a) e.0 refl,
+        e.cells,
+        place_by_row w (suc rows.south.0) b lines.bottom (run_at b) e.bottom refl,
+        place_by_row w rows.north.0 b lines.top (run_at b) e.top refl,
+        place_by_row w (suc rows.south.0) a lines.bottom (run_at a) e.bottom refl,
+        place_by_row w rows.north.0 a lines.top (run_at a) e.top refl,
       )
 
-  pub sum_by_lines : (cols : ColSpan) → rectangle_sum w (line_cells cells lines) 0 0 cols ≡ rectangle_sum w (corner w cells) north south cols
+  pub sum_by_lines : (cols : ColSpan) → rectangle_sum w (line_cells lines) 0 0 cols ≡ rectangle_sum w (corner w cells) rows.north.0 rows.south.0 cols
   unfolding rectangle_sum
   sum_by_lines FullTurn = box_by_lines 0 w
   sum_by_lines (Through west east) =

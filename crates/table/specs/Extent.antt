@@ -2,7 +2,7 @@
 use Rattle.std.specs.Prelude.{not, cond, ◌-◌, Float}
 use Rattle.std.specs.Float.{binary64}
 use Rattle.std.specs.Float.Ieee.{sub, le}
-use Rattle.refusal.specs.Refusal.{Outcome, answered, refused, first, passed, outcome, and_then, not_its_makers}
+use Rattle.refusal.specs.Refusal.{Outcome, answered, first, passed, outcome, and_then, not_its_makers}
 use Rattle.geodesy.specs.declared.LatLon.{LatLon}
 use Rattle.float.specs.Constants.{f64p360}
 use Rattle.grid.specs.declared.Grid.{Grid}
@@ -13,13 +13,6 @@ use Rattle.table.specs.declared.RowBand.{RowBand}
 use Rattle.table.specs.declared.ColSpan.{ColSpan}
 use Rattle.table.specs.declared.ColSpan.TheVariants.{Through, FullTurn}
 use Rattle.table.specs.declared.Window.{Window}
-use Rattle.table.specs.declared.ExtentAnswer.{ExtentAnswer}
-use Rattle.table.specs.declared.ExtentAnswer.TheVariants as extent
-
--- what the answers are in document 01's terms: rows and columns
-abbrev pub extent_outcome : ExtentAnswer → Outcome (RowBand × ColSpan)
-extent_outcome (extent.Extent rows cols) = answered (rows, cols)
-extent_outcome (extent.Refused n) = refused n
 
 -- every row and every column
 unfoldable pub whole_extent : Grid → Outcome (RowBand × ColSpan)

@@ -2,7 +2,7 @@
 use Rattle.std.specs.Prelude.{List, Bool, true, not, cond, ◌&&◌, ℕ, suc, min, max, leb, ltb, Float}
 use Rattle.std.specs.Float.{nan, binary64}
 use Rattle.std.specs.Float.Ieee.{add, sub}
-use Rattle.refusal.specs.Refusal.{Outcome, answered, refused, first, passed, outcome, not_its_makers, wrong_table_length, row_off_grid, column_off_grid}
+use Rattle.refusal.specs.Refusal.{Outcome, first, passed, outcome, not_its_makers, wrong_table_length, row_off_grid, column_off_grid}
 use Rattle.grid.specs.declared.Grid.{Grid}
 use Rattle.grid.specs.Grid.{valid_grid}
 use Rattle.layout.specs.Place.{corner, right_table}
@@ -10,8 +10,6 @@ use Rattle.layout.specs.Rows.{row_corner, right_rows}
 use Rattle.table.specs.declared.RowBand.{RowBand}
 use Rattle.table.specs.declared.ColSpan.{ColSpan}
 use Rattle.table.specs.declared.ColSpan.TheVariants.{Through, FullTurn}
-use Rattle.table.specs.declared.PopulationAnswer.{PopulationAnswer}
-use Rattle.table.specs.declared.PopulationAnswer.TheVariants as population
 
 -- a band is given by any two of its rows: the north one is the first
 abbrev pub row_band : ℕ → ℕ → RowBand
@@ -53,11 +51,6 @@ rectangle_refusal g right rows cols =
     (first (not right) wrong_table_length
     (first (leb g.height rows.south.0) row_off_grid
     (first (not (span_on_grid g.width cols)) column_off_grid passed)))
-
--- what a population call's answer is in document 01's terms
-abbrev pub population_outcome : PopulationAnswer → Outcome Float
-population_outcome (population.People x) = answered x
-population_outcome (population.Refused n) = refused n
 
 -- `population`, of a table in any layout
 abbrev pub rectangle_by : Grid → Bool → (ℕ → ℕ → Float) → RowBand → ColSpan → Outcome Float

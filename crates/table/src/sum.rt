@@ -1,39 +1,53 @@
 // The people of a rectangle: four cells of the table, or twice four where it crosses the seam.
-ghost use Rattle.std.specs.Prelude.{◌≡◌, cond, suc, ◌+◌, ◌<◌, ◌≤◌, leb, length};
-ghost use Rattle.layout.specs.Place.{cell_at, run_at, corner as corner_of, right_table};
+ghost use Rattle.std.specs.Prelude.{◌≡◌, cond, suc, ◌+◌, ◌<◌, ◌≤◌, leb, length, get_or};
+ghost use Rattle.std.specs.Float.{nan};
+ghost use Rattle.refusal.specs.Refusal.{number_in, outcome_of};
+ghost use Rattle.layout.specs.Place.{run_at, corner as corner_of, right_table};
 ghost use Rattle.table.specs.private.Held.{Held};
-ghost use Rattle.table.specs.private.Lines.{line_cells};
+ghost use Rattle.table.specs.private.Lines.{LinesOf, line_cells};
 ghost use Rattle.table.specs.Rectangle.{box_sum, rectangle_sum, rectangle_held, held_sum, span_on_grid, rectangle_refusal};
-ghost use Rattle.table.specs.Rectangle.{population_outcome, rectangle_population};
+ghost use Rattle.table.specs.Rectangle.{rectangle_population};
 ghost use Rattle.table.specs.declared.ColSpan.TheVariants.{Through, FullTurn};
 
-use crate::place::corner;
-use crate::{ColSpan, Lines, PopulationAnswer, RowBand, Table};
+use crate::{ColSpan, Lines, RowBand, Table};
 use grid::Col;
-use refusal::{COLUMN_OFF_GRID, NOT_ITS_MAKERS, PASSED, ROW_OFF_GRID, WRONG_TABLE_LENGTH, first};
+use refusal::{Refusal, refuse_if};
 
-fn lines_of(width: u32, rows: RowBand) -> Lines
-    requires { rows.south.0 < 0xffff_ffff }
-    ensures { (result.top ≡ cell_at width rows.north.0 0) × (result.bottom ≡ cell_at width (suc rows.south.0) 0) }
-{
-    let top = layout::cell_at(width, rows.north.0, 0);
-    let bottom = layout::cell_at(width, rows.south.0 + 1, 0);
-    Lines { top, bottom }
-}
+impl<'a> Lines<'a> {
+    // A cell by the first cell of its table row, and by how far it stands past that.
+    fn cell(self, start: usize, run: usize) -> f64
+        requires { start + run < length self.cells.now }
+        ensures { result ≡ get_or self.entry.cells.now (start + run) nan }
+    {
+        self.cells[start + run]
+    }
 
-// The columns `from` to the one before `to`, by the cells at the four corners. Where the south-east one is in the table, so
-// are the other three.
-fn box_sum(cells: &[f64], lines: Lines, from: u32, to: u32) -> f64
-    requires { (lines.top ≤ lines.bottom) × (from ≤ to) × (lines.bottom + run_at to < length cells.now) }
-    ensures { result ≡ box_sum (line_cells cells.now lines) 0 0 from to }
-{
-    let left = layout::run_at(from);
-    let right = layout::run_at(to);
-    let se = corner(cells, lines.bottom, right);
-    let ne = corner(cells, lines.top, right);
-    let sw = corner(cells, lines.bottom, left);
-    let nw = corner(cells, lines.top, left);
-    se - ne - sw + nw
+    // The columns `from` to the one before `to`, by the cells at the four corners. Where the south-east one is in the
+    // table, so are the other three.
+    fn box_sum(self, from: u32, to: u32) -> f64
+        requires { (self.top ≤ self.bottom) × (from ≤ to) × (self.bottom + run_at to < length self.cells.now) }
+        ensures { result ≡ box_sum (line_cells self.entry) 0 0 from to }
+    {
+        let left = layout::run_at(from);
+        let right = layout::run_at(to);
+        let se = self.cell(self.bottom, right);
+        let ne = self.cell(self.top, right);
+        let sw = self.cell(self.bottom, left);
+        let nw = self.cell(self.top, left);
+        se - ne - sw + nw
+    }
+
+    // Columns west to east, both in; where west is past east, two pieces that meet at the seam.
+    fn through(self, width: u32, west: Col, east: Col) -> f64
+        requires { (self.top ≤ self.bottom) × (west.0 < width) × (east.0 < width) × (self.bottom + run_at width < length self.cells.now) }
+        ensures { result ≡ rectangle_sum width (line_cells self.entry) 0 0 (Through west east) }
+    {
+        let first = self.box_sum(west.0, first_end(width, west, east));
+        if west.0 <= east.0 {
+            return first;
+        }
+        first + self.box_sum(0, east.0 + 1)
+    }
 }
 
 // The column behind the first piece of the columns west to east: that behind the seam where west is past east.
@@ -47,18 +61,6 @@ fn first_end(width: u32, west: Col, east: Col) -> u32
     east.0 + 1
 }
 
-// Columns west to east, both in; where west is past east, two pieces that meet at the seam.
-fn through(width: u32, cells: &[f64], lines: Lines, west: Col, east: Col) -> f64
-    requires { (lines.top ≤ lines.bottom) × (west.0 < width) × (east.0 < width) × (lines.bottom + run_at width < length cells.now) }
-    ensures { result ≡ rectangle_sum width (line_cells cells.now lines) 0 0 (Through west east) }
-{
-    let first = box_sum(cells, lines, west.0, first_end(width, west, east));
-    if west.0 <= east.0 {
-        return first;
-    }
-    first + box_sum(cells, lines, 0, east.0 + 1)
-}
-
 // Both columns are the grid's.
 fn span_on_grid(width: u32, cols: ColSpan) -> bool
     ensures { result ≡ span_on_grid width cols }
@@ -69,74 +71,84 @@ fn span_on_grid(width: u32, cols: ColSpan) -> bool
     }
 }
 
-impl Table {
+impl<'a> Table<'a> {
+    fn lines(self, rows: RowBand) -> Lines<'a>
+        requires { rows.south.0 < 0xffff_ffff }
+        ensures { LinesOf self.entry.grid.width rows self.entry.cells.now result }
+    {
+        let width = self.grid.width;
+        let top = layout::cell_at(width, rows.north.0, 0);
+        let bottom = layout::cell_at(width, rows.south.0 + 1, 0);
+        Lines {
+            cells: self.cells,
+            top,
+            bottom,
+        }
+    }
+
     // Whether the rectangle's cells are in the table.
-    fn holds(self, cells: &[f64], rows: RowBand, cols: ColSpan) -> bool
-        ensures { result ≡ rectangle_held self.grid cells.now rows cols }
+    #[tactic(auto, unfolding(crate::specs::Rectangle::rectangle_held))]
+    fn holds(self, rows: RowBand, cols: ColSpan) -> bool
+        ensures { result ≡ rectangle_held self.entry.grid self.entry.cells.now rows cols }
     {
         let grid = self.grid;
         let ordered = (rows.north.0 <= rows.south.0) & (rows.south.0 < grid.height);
-        self.is_over(cells) & ordered & span_on_grid(grid.width, cols)
+        self.is_over() & ordered & span_on_grid(grid.width, cols)
+    }
+
+    fn rectangle_sum(self, rows: RowBand, cols: ColSpan) -> f64
+        requires { Held self.grid (length self.cells.now) rows cols }
+        ensures { result ≡ rectangle_sum self.entry.grid.width (corner_of self.entry.grid.width self.entry.cells.now) rows.north.0 rows.south.0 cols }
+    {
+        let width = self.grid.width;
+        let lines = self.lines(rows);
+        match cols {
+            // One rectangle, never two pieces that meet at the seam.
+            ColSpan::FullTurn => lines.box_sum(0, width),
+            ColSpan::Through { west, east } => lines.through(width, west, east),
+        }
     }
 
     // The rows' people, every column once; the NaN where the table does not hold them. `population` has the refusals.
-    pub fn full_turn_sum(self, cells: &[f64], rows: RowBand) -> f64
-        ensures { result ≡ held_sum self.grid cells.now rows FullTurn }
+    // (b) not through `rectangle_sum`: a circle's row would call it, at 105 instructions a row in place of 73.
+    pub fn full_turn_sum(self, rows: RowBand) -> f64
+        ensures { result ≡ held_sum self.entry.grid self.entry.cells.now rows FullTurn }
     {
-        if !self.holds(cells, rows, ColSpan::FullTurn) {
-            return 0.0 / 0.0;
+        if !self.holds(rows, ColSpan::FullTurn) {
+            return f64::NAN;
         }
-        let width = self.grid.width;
-        box_sum(cells, lines_of(width, rows), 0, width)
+        self.lines(rows).box_sum(0, self.grid.width)
     }
 
     // The same of the columns west to east.
-    pub fn through_sum(self, cells: &[f64], rows: RowBand, west: Col, east: Col) -> f64
-        ensures { result ≡ held_sum self.grid cells.now rows (Through west east) }
+    pub fn through_sum(self, rows: RowBand, west: Col, east: Col) -> f64
+        ensures { result ≡ held_sum self.entry.grid self.entry.cells.now rows (Through west east) }
     {
-        if !self.holds(cells, rows, ColSpan::Through { west, east }) {
-            return 0.0 / 0.0;
+        if !self.holds(rows, ColSpan::Through { west, east }) {
+            return f64::NAN;
         }
-        let width = self.grid.width;
-        through(width, cells, lines_of(width, rows), west, east)
+        self.lines(rows).through(self.grid.width, west, east)
     }
 
-    fn rectangle_sum(self, cells: &[f64], rows: RowBand, cols: ColSpan) -> f64
-        requires { Held self.grid (length cells.now) rows cols }
-        ensures { result ≡ rectangle_sum self.grid.width (corner_of self.grid.width cells.now) rows.north.0 rows.south.0 cols }
-    {
-        let width = self.grid.width;
-        let lines = lines_of(width, rows);
-        match cols {
-            // One rectangle, never two pieces that meet at the seam.
-            ColSpan::FullTurn => box_sum(cells, lines, 0, width),
-            ColSpan::Through { west, east } => through(width, cells, lines, west, east),
-        }
-    }
-
-    // The number of the first check that fails, or `PASSED`. The band is ordered, so only its south can be off the grid.
-    fn rectangle_refusal(self, cells: &[f64], rows: RowBand, cols: ColSpan) -> u32
-        ensures { result ≡ rectangle_refusal self.grid (right_table self.grid cells.now) rows cols }
+    // The checks of a rectangle. The band is ordered, so only its south can be off the grid.
+    #[tactic(auto, unfolding(crate::specs::Rectangle::rectangle_refusal))]
+    fn check(self, rows: RowBand, cols: ColSpan) -> Result<(), Refusal>
+        ensures { number_in result ≡ rectangle_refusal self.entry.grid (right_table self.entry.grid self.entry.cells.now) rows cols }
     {
         let grid = self.grid;
-        if !(grid.is_valid() & (rows.north.0 <= rows.south.0)) {
-            return NOT_ITS_MAKERS;
-        }
-        let wrong = !self.is_over(cells);
-        let past = grid.height <= rows.south.0;
-        let off = !span_on_grid(grid.width, cols);
-        let n = first(past, ROW_OFF_GRID, first(off, COLUMN_OFF_GRID, PASSED));
-        first(wrong, WRONG_TABLE_LENGTH, n)
+        let made = grid.is_valid() & (rows.north.0 <= rows.south.0);
+        refuse_if(!made, Refusal::NotItsMakers)?;
+        refuse_if(!self.is_over(), Refusal::WrongTableLength)?;
+        refuse_if(grid.height <= rows.south.0, Refusal::RowOffGrid)?;
+        refuse_if(!span_on_grid(grid.width, cols), Refusal::ColumnOffGrid)
     }
 
     // The people of a rectangle.
-    pub fn population(self, cells: &[f64], rows: RowBand, cols: ColSpan) -> PopulationAnswer
-        ensures { population_outcome result ≡ rectangle_population self.grid cells.now rows cols }
+    #[tactic(auto, using(refusal::proofs::Chains::refused_as, crate::proofs::Checks::on_grid), unfolding(crate::specs::Rectangle::rectangle_population))]
+    pub fn population(self, rows: RowBand, cols: ColSpan) -> Result<f64, Refusal>
+        ensures { outcome_of result ≡ rectangle_population self.entry.grid self.entry.cells.now rows cols }
     {
-        let n = self.rectangle_refusal(cells, rows, cols);
-        if n != PASSED {
-            return PopulationAnswer::Refused(n);
-        }
-        PopulationAnswer::People(self.rectangle_sum(cells, rows, cols))
+        self.check(rows, cols)?;
+        Ok(self.rectangle_sum(rows, cols))
     }
 }

@@ -1,72 +1,66 @@
-// The lines that `count` prints (document 01). A line is laid over a lent slice of any length from any offset on: what does not
-// fit is dropped, and the answer is the offset behind the whole line.
+// The lines that `count` prints (document 01). A line is laid over a page, a lent slice of any length from any offset on: what does
+// not fit is dropped, and the page's place goes on behind the whole line.
 #![tactic(auto)]
 
 ghost use Rattle.std.specs.Prelude.{◌++◌};
 ghost use Rattle.digits.specs.Digits.{decimal, space};
-ghost use Rattle.digits.specs.Laid.{Laid};
+ghost use Rattle.digits.specs.Laid.{Lays};
 ghost use Rattle.text.specs.Text.{circle_word, refused_line, rows_line, cells_line, total_line, circle_line, circle_refused_line};
 
-use digits::{NEWLINE, SPACE, put_bytes, put_number, put_shown};
+use digits::{NEWLINE, Page, SPACE};
 use raster::CellTallies;
 
-// `refused n` and a newline.
-fn put_refused(out: &mut [u8], at: usize, n: u32) -> usize
-    ensures { Laid out.old at (refused_line n) out.new result }
-{
-    let a = put_bytes(out, at, b"refused ");
-    put_number(out, a, n as u64, NEWLINE)
-}
-
 // `circle`, the index and a space.
-fn put_circle(out: &mut [u8], at: usize, i: u32) -> usize
-    ensures { Laid out.old at (circle_word ++ decimal i ++ space) out.new result }
+fn put_circle(page: &mut Page, i: u32)
+    ensures { Lays page.old (circle_word ++ decimal i ++ space) page.new }
 {
-    let a = put_bytes(out, at, b"circle ");
-    put_number(out, a, i as u64, SPACE)
+    page.put_bytes(b"circle ");
+    page.put_number(i as u64, SPACE);
 }
 
-pub fn refused_line(out: &mut [u8], at: usize, n: u32) -> usize
-    ensures { Laid out.old at (refused_line n) out.new result }
+// (d) The refusal by its number: the type Refusal would leave out the numbers that no refusal has.
+pub fn refused_line(page: &mut Page, n: u32)
+    ensures { Lays page.old (refused_line n) page.new }
 {
-    put_refused(out, at, n)
+    page.put_bytes(b"refused ");
+    page.put_number(n as u64, NEWLINE);
 }
 
-pub fn rows_line(out: &mut [u8], at: usize, height: u32) -> usize
-    ensures { Laid out.old at (rows_line height) out.new result }
+pub fn rows_line(page: &mut Page, height: u32)
+    ensures { Lays page.old (rows_line height) page.new }
 {
-    let a = put_bytes(out, at, b"rows ");
-    put_number(out, a, height as u64, NEWLINE)
+    page.put_bytes(b"rows ");
+    page.put_number(height as u64, NEWLINE);
 }
 
-pub fn cells_line(out: &mut [u8], at: usize, t: CellTallies) -> usize
-    ensures { Laid out.old at (cells_line t) out.new result }
+pub fn cells_line(page: &mut Page, t: CellTallies)
+    ensures { Lays page.old (cells_line t) page.new }
 {
-    let a = put_bytes(out, at, b"cells ");
-    let b = put_number(out, a, t.nodata, SPACE);
-    let c = put_number(out, b, t.negative, SPACE);
-    let d = put_number(out, c, t.zero, SPACE);
-    let e = put_number(out, d, t.populated, SPACE);
-    put_number(out, e, t.unbounded, NEWLINE)
+    page.put_bytes(b"cells ");
+    page.put_number(t.nodata, SPACE);
+    page.put_number(t.negative, SPACE);
+    page.put_number(t.zero, SPACE);
+    page.put_number(t.populated, SPACE);
+    page.put_number(t.unbounded, NEWLINE);
 }
 
-pub fn total_line(out: &mut [u8], at: usize, total: f64) -> usize
-    ensures { Laid out.old at (total_line total) out.new result }
+pub fn total_line(page: &mut Page, total: f64)
+    ensures { Lays page.old (total_line total) page.new }
 {
-    let a = put_bytes(out, at, b"total ");
-    put_shown(out, a, total)
+    page.put_bytes(b"total ");
+    page.put_shown(total);
 }
 
-pub fn circle_line(out: &mut [u8], at: usize, i: u32, people: f64) -> usize
-    ensures { Laid out.old at (circle_line i people) out.new result }
+pub fn circle_line(page: &mut Page, i: u32, people: f64)
+    ensures { Lays page.old (circle_line i people) page.new }
 {
-    let a = put_circle(out, at, i);
-    put_shown(out, a, people)
+    put_circle(page, i);
+    page.put_shown(people);
 }
 
-pub fn circle_refused_line(out: &mut [u8], at: usize, i: u32, n: u32) -> usize
-    ensures { Laid out.old at (circle_refused_line i n) out.new result }
+pub fn circle_refused_line(page: &mut Page, i: u32, n: u32)
+    ensures { Lays page.old (circle_refused_line i n) page.new }
 {
-    let a = put_circle(out, at, i);
-    put_refused(out, a, n)
+    put_circle(page, i);
+    refused_line(page, n);
 }

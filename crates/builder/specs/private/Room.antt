@@ -4,7 +4,7 @@ use Rattle.grid.specs.declared.Grid.{Grid}
 use Rattle.layout.specs.Place.{payload_length}
 use Rattle.decimation.specs.declared.Decimation.{Decimation}
 use Rattle.decimation.specs.Decimation.{valid_decimation}
-use Rattle.builder.specs.declared.Lengths.{Lengths}
+use Rattle.builder.specs.Build.{Lengths}
 
 -- the lengths that no check refuses
 pub record Sized (d : Decimation) (lent : Lengths) : Type 0 where

@@ -1,12 +1,12 @@
 -- `float::widen` meets its contract.
 -- Assumes nothing.
 use Rattle.std.proofs.Common.{sym}
-use lib.Ieee.{binary32, of_bits, div}
+use lib.Ieee.{binary32, of_bits}
 use Rattle.float.proofs.Patterns.{pattern_number, pattern_nan, widens}
 use Rattle.float.proofs.widen.Goals as goal
 
 pub returns-then-b-gt2139095040 : goal.returns-then-b-gt2139095040
-unfolding div of_bits
+unfolding of_bits
 returns-then-b-gt2139095040 c = sym (pattern_nan binary32 _ c.if-b-gt2139095040.true)
 
 pub float_from_bits-result : goal.float_from_bits-result

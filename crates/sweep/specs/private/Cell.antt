@@ -10,16 +10,12 @@ use Rattle.sweep.specs.declared.Column.{Column}
 unfoldable pub swept : ℕ → Carry → ℕ → Float → Float → Column
 swept nodata s bits acc corr =
     let x = sanitised nodata bits in
-    let p = taken_in s.prefix s.corr (cell_value x) in
-    let q = taken_in acc corr p.sum in
+    let p = taken_in s.prefix.sum s.prefix.dropped (cell_value x) in
     record {
-      acc = q.sum;
-      corr = q.dropped;
+      after = taken_in acc corr p.sum;
       cell = x;
       carry = record {
-        prefix = p.sum;
-        corr = p.dropped;
-        digest = mixed s.digest x;
-        tallies = held_tallies (tallied s.tallies (kind_of nodata bits));
+        prefix = p;
+        so_far = record { digest = mixed s.so_far.digest x; tallies = held_tallies (tallied s.so_far.tallies (kind_of nodata bits)) };
       };
     }

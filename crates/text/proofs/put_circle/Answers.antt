@@ -1,8 +1,7 @@
 -- `text::put_circle` meets its contract.
 -- Assumes nothing.
-use Rattle.digits.proofs.Laying.{laid_then}
+use Rattle.digits.proofs.Laying.{lays_then}
 use Rattle.text.proofs.put_circle.Goals as goal
 
 pub returns : goal.returns
-returns c =
-    laid_then c.put_bytes-a.ensures c.put_number.ensures
+returns c = lays_then c.put_bytes.ensures c.put_number.ensures

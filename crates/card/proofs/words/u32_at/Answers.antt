@@ -1,10 +1,8 @@
 -- `card::words::u32_at` meets its contract.
 -- Assumes nothing.
-use mathlib.Core.Path.{sym}
-use Rattle.card.proofs.Bytes.{u32_bytes}
+use mathlib.Core.Path.{◌∙◌}
+use Rattle.card.proofs.Bytes.{u32_joined}
 use Rattle.card.proofs.words.u32_at.Goals as goal
 
 pub returns : goal.returns
-returns c =
-    rw (c.byte_at-a.ensures.0, c.byte_at-b.ensures.0, c.byte_at-c.ensures.0, c.byte_at-d.ensures.0)
-    (sym (u32_bytes c.args.card.now c.args.at))
+returns c = c.from_le_bytes.ensures ∙ u32_joined c.args.card.now c.args.at c.bytes_at.result c.bytes_at.ensures

@@ -1,28 +1,27 @@
 -- `kernel::Kernel::new` meets its contract.
 -- Assumes nothing.
-use mathlib.Core.Path.{sym, ◌∙◌, ap}
+use mathlib.Core.Path.{◌≡◌, ap}
 use lib.ListN.{length}
+use borrow.Author.Rules.{rules}
 use Rattle.refusal.specs.Refusal.{answered}
-use Rattle.kernel.specs.Kernel.{kernel_of, half_widths_of, kernel_new}
-use Rattle.kernel.proofs.Together.{refused_all}
-use Rattle.kernel.proofs.Rules.{ready}
+use Rattle.kernel.specs.Kernel.{kernel_refusal, kernel_new}
+use Rattle.kernel.proofs.Together.{made_point, made_cap, fill_front}
 use Rattle.kernel.proofs.Kernel.new.Goals as goal
 
-pub returns-then-n-ne-PASSED : goal.returns-then-n-ne-PASSED
+pub returns-then-radius : goal.returns-then-radius
 unfolding kernel_new
-returns-then-n-ne-PASSED c =
+returns-then-radius c =
     let a = c.args in
-    let k = kernel_of a.grid a.centre a.radius in
-    let hs = half_widths_of a.grid a.centre a.radius a.half_widths.now in
-    rw (← c.kernel_refusal-n.ensures) (refused_all _ k a.half_widths.now hs c.if-n-ne-PASSED.true)
-
-pub kernel_of-requires : goal.kernel_of-requires
-kernel_of-requires c =
-    let a = c.args in
-    ready a.grid a.centre a.radius (length a.half_widths.now) (sym c.kernel_refusal-n.ensures ∙ c.if-n-ne-PASSED.false)
+    let z : kernel_refusal a.grid a.centre a.radius (length a.half_widths.now) ≡ 0 = search rules in
+    let m = made_point a.grid a.centre a.radius a.half_widths.now c.if-radius.true in
+    rw z (ap answered m.0, m.1)
 
 pub returns : goal.returns
 unfolding kernel_new
 returns c =
-    let z = sym c.kernel_refusal-n.ensures ∙ c.if-n-ne-PASSED.false in
-    (rw z (ap answered c.kernel_of.ensures.0), rw z c.kernel_of.ensures.1)
+    let a = c.args in
+    let z : kernel_refusal a.grid a.centre a.radius (length a.half_widths.now) ≡ 0 = search rules in
+    let m = made_cap a.grid a.centre a.radius a.half_widths.now _ _ _ _ _ _ c.if-radius.false c.lat_at.ensures
+    c.cap_over.ensures
+    c.terms-cap.ensures c.north_of-north.ensures.0 c.south_of.ensures.0 (fill_front _ _ _ _ _ c.fill.ensures (search rules)) in
+    rw z (ap answered m.0, m.1)

@@ -2,24 +2,24 @@
 -- Assumes nothing.
 use mathlib.Core.Path.{refl, sym, ◌∙◌}
 use native.Mathlib.Omega.{arith}
-use lib.Ieee.{div, of_bits}
+use lib.Ieee.{of_bits}
 use Rattle.table.proofs.Checks.{held_facts, held_columns, held_sum_lem, not_held, lines_ordered, lines_inside, sum_by_lines}
 use Rattle.table.proofs.Table.through_sum.Goals as goal
 
 pub returns-then-not-holds : goal.returns-then-not-holds
-unfolding div of_bits
+unfolding of_bits
 returns-then-not-holds c = not_held _ _ _ _ (sym c.holds.ensures ∙ c.if-not-holds.true)
 
-pub lines_of-requires : goal.lines_of-requires
-lines_of-requires c = omega (arith, (held_facts _ _ _ _ (sym c.holds.ensures ∙ c.if-not-holds.false)).south)
+pub lines-requires : goal.lines-requires
+lines-requires c = omega (arith, (held_facts _ _ _ _ (sym c.holds.ensures ∙ c.if-not-holds.false)).south)
 
 pub through-requires : goal.through-requires
 through-requires c =
     let h = held_facts _ _ _ _ (sym c.holds.ensures ∙ c.if-not-holds.false) in
     let on = held_columns _ _ _ _ h _ _ refl in
-    (lines_ordered _ _ _ _ h _ c.lines_of.ensures, on.0, on.1, lines_inside _ _ _ _ h _ c.lines_of.ensures)
+    (lines_ordered _ _ _ _ h _ refl _ c.lines.ensures, on.0, on.1, lines_inside _ _ _ _ h _ refl _ c.lines.ensures)
 
 pub returns : goal.returns
 returns c =
     let h = held_facts _ _ _ _ (sym c.holds.ensures ∙ c.if-not-holds.false) in
-    c.through.ensures ∙ sum_by_lines _ _ _ _ _ c.lines_of.ensures _ ∙ sym (held_sum_lem _ _ _ _ h)
+    c.through.ensures ∙ sum_by_lines _ _ _ _ c.lines.ensures _ ∙ sym (held_sum_lem _ _ _ _ h)
