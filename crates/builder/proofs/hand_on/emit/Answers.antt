@@ -12,7 +12,7 @@ store-requires c =
     let src = c.args.src.now in
     let inside : c.loop-k.k < length src / 8 = omega (arith, c.as_chunks.ensures.front_len) in
     rw (c.as_chunks.ensures.front, run_length src c.loop-k.k inside, c.loop-k.auto.dst)
-    (part_fits c.loop-k.k 8 (length src) (length c.args.dst.now) (omega arith) (omega arith) (omega arith) c.requires)
+    (omega (arith, part_fits c.loop-k.k 8 (length src) (length c.args.dst.now) (omega arith) (omega arith) (omega arith) c.requires))
 
 pub loop-k-preserved : goal.loop-k-preserved
 loop-k-preserved c =
