@@ -1,5 +1,6 @@
 // Some of the calls under C names, for a Rust program to link: to time them (reference/bench) and to compare cards and
 // roots (reference/cards, reference/roots).
+// (a) the C interface: a call takes numbers and slices one by one, and gives one number.
 #![tactic(auto)]
 
 ghost use Rattle.std.specs.Prelude.{◌≡◌, ◌≤◌, length};

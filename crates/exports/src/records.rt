@@ -10,6 +10,7 @@ use radius::RadiusKm;
 use raster::CellTallies;
 
 // 1,024 columns around the globe, and two rows.
+// (d) beside `globe` a literal of its own: a function of both would take four of the six fields by their place.
 #[tactic(auto, unfolding(crate::specs::Exports::wide_grid))]
 fn wide_grid() -> Grid
     ensures { result ≡ wide_grid }

@@ -13,6 +13,7 @@ pub fn read_full<R: Read>(input: &mut R, bytes: &mut [u8]) -> io::Result<usize>
     ensures front { IfOk result (λ n. Consumes (R.remaining input.old) (R.remaining input.new) (take n bytes.new)) }
     ensures end { IfOk result (λ n. n < length bytes.new → IsAtEnd (R.remaining input.new)) }
 {
+    // (d) no `for` counts here: each turn goes on by as many bytes as the reader gave.
     let mut done = 0;
     while done < bytes.len() {
         match input.read(&mut bytes[done..])? {

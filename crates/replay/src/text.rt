@@ -35,6 +35,7 @@ fn glyph(n: u64) -> u8 {
 }
 
 // The words of an answer, one behind another from the front of the text on; what does not fit is left out.
+// (a) no heap: the text is lent for call after call, so its end stands beside it.
 #[derive(Drop)]
 pub struct Line<'a> {
     text: &'a mut [u8],
