@@ -23,7 +23,7 @@ fn main(rt: HostRuntime) -> ExitCode {
     let mut text = [0; TEXT];
     let read = match input::read_full(&mut rt.stdin(), &mut bytes) {
         Ok(read) => read,
-        Err(e) => return fail(&rt, "the card cannot be read", e),
+        Err(failed) => return fail(&rt, "the card cannot be read", failed.error),
     };
     let written = report::answer(&bytes[..read], &mut text);
     match rt.stdout().write_all(&text[..written]) {

@@ -27,7 +27,8 @@ fn one_card<R: Files + Print + Eprint>(
         Ok(file) => file,
         Err(e) => return eprintln!(rt; "{name}: {e}"),
     };
-    let read = input::read_full(&mut file, bytes)?;
+    // Where a read fails, what was read before it is counted.
+    let read = input::read_full(&mut file, bytes).unwrap_or_else(|failed| failed.read);
     drop(file);
     let written = report::answer(&bytes[..read], text);
     io::writer(rt).write_all(&text[..written])

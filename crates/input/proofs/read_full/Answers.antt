@@ -15,8 +15,8 @@ grown a k n xs part p q =
 
 pub loop-done-preserved : goal.loop-done-preserved
 loop-done-preserved g c =
-    let read = c.in_ok-more.ensures in
-    let whole = grown c.loop-done.done _ c.in_ok-more.more c.loop-done.bytes c.read.new.buf c.loop-done.invariant.within read.bound.0 in
+    let read = c.in-Ok.ensures in
+    let whole = grown c.loop-done.done _ c.in-Ok.more c.loop-done.bytes c.read.new.buf c.loop-done.invariant.within read.bound.0 in
     record {
       keeps_length = search rules;
       within = search rules;
