@@ -1,23 +1,25 @@
 -- What the checks of the builder's calls give. Assumes nothing.
 use mathlib.Core.Path.{◌≡◌, refl, sym, ◌∙◌}
-use mathlib.Core.Bool.{true, false, not, and-false}
+use mathlib.Core.Bool.{Bool, true, false, not, ◌||◌}
 use mathlib.Core.List.{List}
-use Prim.Native.Nat.{ℕ, zero, suc, ◌*◌, ◌≤◌, ◌<◌}
+use Prim.Native.Nat.{ℕ, zero, suc, min, ◌+◌, ◌*◌, ◌≤◌, ◌<◌}
 use native.Mathlib.Nat.{suc-mul, zero-mul, mul-le-mul}
-use native.Mathlib.Numerals.{lt_of_le_of_ne}
+use native.Mathlib.Numerals.{add-one, lt_of_le_of_ne}
 use native.Mathlib.Omega.{arith}
-use borrow.Author.Tests.{eqb-true, eqb-false, leb-true, ltb-false, eq-eqb, ne_eqb, le-leb, lt-leb, le-ltb, not-false}
+use borrow.Author.Tests.{eqb-true, eqb-false, leb-true, ltb-false, eq-eqb, ne_eqb, le-leb, le-ltb, not-false}
 use lib.Dec.{eqb, leb, ltb}
 use lib.ListN.{length}
 use Rattle.refusal.proofs.Tests.{both, neither}
-use Rattle.refusal.proofs.Chains.{first_passed}
-use Rattle.refusal.specs.Refusal.{first, passed, unless_refused, not_its_makers, wrong_table_length, wrong_accumulator_length}
+use Rattle.refusal.proofs.Chains.{first_passed, number_not_0}
+use Rattle.refusal.specs.declared.Refusal.{Refusal}
+use Rattle.refusal.specs.Refusal.{first, passed, unless_refused, number_of, not_its_makers, wrong_table_length, wrong_accumulator_length}
 use Rattle.refusal.specs.Refusal.{wrong_coarse_length, row_after_last, wrong_row_length, finish_before_last}
 use Rattle.raster.specs.Raster.{cells_of, row_tallies}
 use Rattle.raster.proofs.Tallies.{cells_of_row, cells_of_sum}
 use Rattle.grid.specs.declared.Grid.{Grid}
 use Rattle.grid.specs.Grid.{limit, valid_grid}
 use Rattle.layout.specs.Place.{payload_length}
+use Rattle.layout.proofs.Places.{length_held}
 use Rattle.decimation.specs.declared.Decimation.{Decimation}
 use Rattle.decimation.specs.Decimation.{factor_refusal, decimation_of, valid_decimation}
 use Rattle.decimation.proofs.Factors.{Framed, framed, decimation_valid}
@@ -41,15 +43,11 @@ standing b e =
     let q = both (valid_decimation b.decimation) (leb b.rows b.decimation.source.height) p.0 in
     record { made = q.0; rows = leb-true _ _ q.1; tallied = eqb-true _ _ p.1 }
 
--- the test of a builder whose decimation and rows are right, and of one with too many rows
+-- the test of a builder whose decimation and rows are right
 pub valid_so_far : (b : Builder) → valid_decimation b.decimation ≡ true → b.rows ≤ b.decimation.source.height
     → valid_builder b ≡ eqb (cells_of b.tallies) (b.rows * b.decimation.source.width)
 unfolding valid_builder
 valid_so_far b v l = rw (v, le-leb b.rows b.decimation.source.height l)
-
-pub rows_over : (b : Builder) → b.decimation.source.height < b.rows → valid_builder b ≡ false
-unfolding valid_builder
-rows_over b h = rw (lt-leb b.rows b.decimation.source.height h, and-false)
 
 pub builder_framed : (b : Builder) → valid_builder b ≡ true → Framed b.decimation
 builder_framed b e = framed b.decimation (standing b e).made
@@ -88,6 +86,31 @@ module _ (d : Decimation) (lent : Lengths) where
         eq-eqb lent.coarse (suc d.grid.width) l.coarse,
       )
 
+  -- as the code works the lengths out
+  pub lent_read : valid_decimation d ≡ true → lent_refusal d lent passed
+      ≡ first (not (eqb lent.table (min (payload_length d.grid.width d.grid.height) 0xffff_ffff_ffff_ffff))) wrong_table_length
+      (first (not (eqb lent.acc (d.source.width + 1)) || not (eqb lent.corr (d.source.width + 1))) wrong_accumulator_length
+      (first (not (eqb lent.coarse (d.grid.width + 1))) wrong_coarse_length passed))
+  unfolding lent_refusal
+  lent_read v =
+      let f = framed d v in
+      rw (length_held d.grid.width d.grid.height f.few_columns f.few_lines, add-one d.source.width, add-one d.grid.width)
+
+  -- what they are refused with comes ahead of the checks after them, which are looked at where the lengths are right
+  pub lent_ahead : (rest : ℕ) (r : Refusal) → number_of r ≡ lent_refusal d lent passed → number_of r ≡ lent_refusal d lent rest
+  unfolding lent_refusal
+  lent_ahead rest r e = go (off_table d lent) (off_rows d lent) (off_coarse d lent) e
+    where
+      go : (a b c : Bool) → number_of r ≡ first a wrong_table_length (first b wrong_accumulator_length (first c wrong_coarse_length passed))
+          → number_of r ≡ first a wrong_table_length (first b wrong_accumulator_length (first c wrong_coarse_length rest))
+      go true b c e = e
+      go false true c e = e
+      go false false true e = e
+      go false false false e = absurd (number_not_0 r e)
+
+  pub lent_past : (rest : ℕ) → passed ≡ lent_refusal d lent passed → lent_refusal d lent rest ≡ rest
+  lent_past rest e = lent_goes_on rest (lent_passed passed (sym e)).0
+
 -- ---- a call that is not refused
 
 -- a row call
@@ -121,6 +144,13 @@ finish_passed b m e =
     let r = first_passed (ltb b.rows b.decimation.source.height) finish_before_last _ tt q.1 in
     let v = not-false (valid_builder b) p.0 in
     record { valid = v; lengths = q.0; rows = omega (arith, (standing b v).rows, ltb-false b.rows b.decimation.source.height r.0) }
+
+-- the total is in the accumulator
+pub total_inside : (b : Builder) (lent : Lengths) → passed ≡ finish_refusal b lent → b.decimation.source.width < lent.acc
+unfolding finish_refusal
+total_inside b lent e =
+    let p = first_passed (not (valid_builder b)) not_its_makers _ tt (sym e) in
+    omega (arith, (lent_passed b.decimation lent _ p.1).0.acc)
 
 -- a start
 pub record Begun (g : Grid) (k : ℕ) (m : Buffers) : Type 0 where

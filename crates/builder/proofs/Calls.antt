@@ -2,32 +2,31 @@
 use mathlib.Core.Path.{◌≡◌, refl, sym, ap, ◌∙◌}
 use mathlib.Core.Bool.{Bool, true, false, not}
 use mathlib.Core.List.{List}
-use Prim.Native.Nat.{ℕ, zero, suc, ◌+◌, ◌/◌, ◌%◌, ◌<◌}
+use Prim.Native.Nat.{ℕ, zero, suc, ◌+◌, ◌/◌, ◌%◌}
 use native.Mathlib.Numerals.{add-one}
-use native.Mathlib.Omega.{arith}
 use borrow.Author.Tests.{eq-eqb, ne_eqb}
 use lib.Dec.{eqb}
-use lib.ListN.{length, replicate}
+use lib.ListN.{length}
 use lib.Ieee.{Float}
-use Rattle.refusal.proofs.Chains.{refused_by, never, answered_passed, left_alone}
-use Rattle.refusal.specs.Refusal.{Outcome, answered, refused, first, passed, outcome, unless_refused, not_its_makers}
-use Rattle.float.specs.Float.{f64zero}
+use Rattle.refusal.proofs.Chains.{never, refused_as}
+use Rattle.refusal.specs.declared.Refusal.{Refusal}
+use Rattle.refusal.specs.Refusal.{answered, refused, first, passed, outcome, unless_refused, not_its_makers, number_of}
 use Rattle.digest.specs.Digest.{first_digest, digest_of}
 use Rattle.raster.specs.declared.CellTallies.{CellTallies}
 use Rattle.raster.specs.Raster.{sanitised_row, row_tallies, plus_tallies, held_tallies, no_tallies}
 use Rattle.grid.specs.declared.Grid.{Grid}
 use Rattle.grid.specs.Grid.{valid_grid}
-use Rattle.layout.specs.Written.{cleared_table, laid_row}
+use Rattle.layout.specs.Written.{laid_row}
 use Rattle.decimation.specs.declared.Decimation.{Decimation}
-use Rattle.decimation.specs.Decimation.{factor_refusal, decimation_new}
+use Rattle.decimation.specs.Decimation.{factor_refusal, decimation_new, valid_decimation}
 use Rattle.decimation.proofs.Factors.{Made, decimation_made}
 use Rattle.sweep.specs.Sweep.{acc_after, corr_after}
 use Rattle.builder.specs.declared.Builder.{Builder}
 use Rattle.builder.specs.declared.Lengths.{Lengths}
 use Rattle.builder.specs.Rows.{coarse_filled, handed_on}
-use Rattle.builder.specs.Build.{Buffers, buffers, lengths_of, lent_refusal, start_refusal, first_builder, cleared_buffers, start_call, row_refusal}
-use Rattle.builder.specs.Build.{builder_after, coarse_after, table_after, buffers_after, row_call, row_left, finish_refusal, built_table, finish_call}
-use Rattle.builder.proofs.Builders.{start_goes_on, finish_passed, row_passed}
+use Rattle.builder.specs.Build.{Buffers, buffers, lengths_of, lent_refusal, start_refusal, first_builder, row_refusal}
+use Rattle.builder.specs.Build.{builder_after, coarse_after, table_after, buffers_after, row_call, row_left}
+use Rattle.builder.proofs.Builders.{start_goes_on, row_passed}
 use Rattle.builder.proofs.Kept.{tallies_fit}
 
 -- ---- a start
@@ -44,54 +43,36 @@ begin_barred g k nodata lent n e = go (valid_grid g) (factor_refusal g k) _ _ _ 
     go true zero r a b e = never e
     go true (suc f) r a b e = ap refused (let z : n ≡ suc f = cc in z)
 
--- with a decimation, n being the number that the lengths give
-module _ (g : Grid) (k nodata : ℕ) (lent : Lengths) (d : Decimation) (e : answered d ≡ decimation_new g k) (n : ℕ)
-    (en : n ≡ lent_refusal d lent passed) where
+-- with a decimation, by what the lengths give
+module _ (g : Grid) (k nodata : ℕ) (lent : Lengths) (d : Decimation) (e : answered d ≡ decimation_new g k) where
   made : Made g k d
   made = decimation_made g k d (sym e)
 
-  number : n ≡ start_refusal g k lent
-  number = en ∙ ap (λ (x : Decimation). lent_refusal x lent passed) made.is ∙ sym (start_goes_on g k lent made.source made.factored)
+  number : lent_refusal d lent passed ≡ start_refusal g k lent
+  number = ap (λ (x : Decimation). lent_refusal x lent passed) made.is ∙ sym (start_goes_on g k lent made.source made.factored)
 
-  pub begin_refused : (n ≡ 0 → ⊥) → refused n ≡ outcome (start_refusal g k lent) (first_builder g k nodata)
-  begin_refused h = rw (← number) (refused_by n (first_builder g k nodata) h)
+  pub begin_refused : (r : Refusal) → number_of r ≡ lent_refusal d lent passed
+      → refused (number_of r) ≡ outcome (start_refusal g k lent) (first_builder g k nodata)
+  begin_refused r n = refused_as r (start_refusal g k lent) (first_builder g k nodata) (n ∙ number)
 
-  pub begun : n ≡ 0
+  pub begun : passed ≡ lent_refusal d lent passed
       → answered (record { decimation = d; nodata = nodata; rows = 0; digest = first_digest; tallies = no_tallies })
       ≡ outcome (start_refusal g k lent) (first_builder g k nodata)
   unfolding first_builder
-  begun z = rw (← number, z, ← made.is)
+  begun n = rw (← number, ← n, ← made.is)
 
--- o being what the lengths give
-module _ (g : Grid) (k nodata : ℕ) (m : Buffers) (o : Outcome Builder)
-    (e : o ≡ outcome (start_refusal g k (lengths_of m)) (first_builder g k nodata)) where
-  pub start_refused : (n : ℕ) → o ≡ refused n → (o ≡ (start_call g k nodata m).answer) × (m ≡ (start_call g k nodata m).buffers)
-  unfolding start_call
-  start_refused n r = (e, sym (left_alone (start_refusal g k (lengths_of m)) _ m (λ z. never (rw z at (sym r ∙ e)))))
+pub made_valid : (g : Grid) (k : ℕ) (d : Decimation) → answered d ≡ decimation_new g k → valid_decimation d ≡ true
+made_valid g k d e = (decimation_made g k d (sym e)).valid
 
-  module _ (b : Builder) (a : o ≡ answered b) where
-    is : (start_refusal g k (lengths_of m) ≡ 0) × (first_builder g k nodata ≡ b)
-    is = answered_passed (start_refusal g k (lengths_of m)) (first_builder g k nodata) b (sym e ∙ a)
+-- what a refused call leaves
+pub left_refused : {A B : Type 0} (n m : ℕ) (a : B) (x y : A) → refused m ≡ outcome n a → y ≡ unless_refused n x y
+left_refused zero m a x y e = never e
+left_refused (suc n) m a x y e = refl
 
-    pub started : (acc corr table : List Float)
-        → acc ≡ replicate (length m.acc) f64zero
-        → corr ≡ replicate (length m.corr) f64zero
-        → table ≡ cleared_table b.decimation.grid.width b.decimation.grid.height m.table
-        → (answered b ≡ (start_call g k nodata m).answer) × (buffers acc corr m.coarse table ≡ (start_call g k nodata m).buffers)
-    unfolding start_call first_builder cleared_buffers
-    started acc corr table ea ec et =
-        let own = ap (λ (x : Builder). x.decimation.grid) is.1 in
-        (sym a ∙ e, rw (is.0, own, et, ea, ec))
+-- ---- a row that its checks pass
 
--- ---- a row, n being the number that its checks give
-
-module _ (b : Builder) (row : List ℕ) (m : Buffers) (n : ℕ) (e : n ≡ row_refusal b (length row) (lengths_of m)) where
-  pub row_refused : (n ≡ 0 → ⊥) → (refused n ≡ (row_call b row m).answer) × (row ≡ row_left b row m) × (m ≡ (row_call b row m).buffers)
-  unfolding row_call row_left
-  row_refused h =
-      rw (← e) (refused_by n (builder_after b row) h, sym (left_alone n (sanitised_row b.nodata row) row h), sym (left_alone n (buffers_after b row m) m h))
-
-  pub row_taken : n ≡ 0 → (row' : List ℕ) (acc corr coarse table : List Float) (more t : CellTallies) (digest : ℕ)
+module _ (b : Builder) (row : List ℕ) (m : Buffers) (e : passed ≡ row_refusal b (length row) (lengths_of m)) where
+  pub row_taken : (row' : List ℕ) (acc corr coarse table : List Float) (more t : CellTallies) (digest : ℕ)
       → more ≡ row_tallies b.nodata row
       → row' ≡ sanitised_row b.nodata row
       → t ≡ held_tallies (plus_tallies b.tallies more)
@@ -104,9 +85,9 @@ module _ (b : Builder) (row : List ℕ) (m : Buffers) (n : ℕ) (e : n ≡ row_r
       × (row' ≡ row_left b row m)
       × (buffers acc corr coarse table ≡ (row_call b row m).buffers)
   unfolding row_call row_left builder_after buffers_after
-  row_taken z row' acc corr coarse table more t digest em er et ed ea ec eo eb =
-      let fit = tallies_fit b row m (row_passed b row m (sym e ∙ z)) in
-      rw (← e, z, eb, eo, ec, ea, ed, et, em, er, fit, add-one b.rows) (refl, refl, refl)
+  row_taken row' acc corr coarse table more t digest em er et ed ea ec eo eb =
+      let fit = tallies_fit b row m (row_passed b row m (sym e)) in
+      rw (← e, eb, eo, ec, ea, ed, et, em, er, fit, add-one b.rows) (refl, refl, refl)
 
 -- ---- the row handed on
 
@@ -126,17 +107,3 @@ module _ (b : Builder) (acc coarse table : List Float) where
   not_handed_on h =
       let q : eqb (suc b.rows % b.decimation.factor) 0 ≡ false = ne_eqb _ 0 (rw (add-one b.rows) at h) in
       rw q (refl, refl)
-
--- ---- a finish, n being the number that its checks give
-
-module _ (b : Builder) (m : Buffers) (n : ℕ) (e : n ≡ finish_refusal b (lengths_of m)) where
-  pub finish_refused : (n ≡ 0 → ⊥) → refused n ≡ finish_call b m
-  unfolding finish_call
-  finish_refused h = rw (← e) (refused_by n (built_table b m) h)
-
-  pub total_inside : n ≡ 0 → b.decimation.source.width < length m.acc
-  total_inside z = omega (arith, (finish_passed b m (sym e ∙ z)).lengths.acc)
-
-  pub finished : n ≡ 0 → answered (built_table b m) ≡ finish_call b m
-  unfolding finish_call
-  finished z = rw (← e, z)

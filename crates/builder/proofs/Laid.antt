@@ -1,21 +1,39 @@
 -- A row written in runs of 8 is the row laid over its table row. Assumes nothing.
-use mathlib.Core.Path.{◌≡◌, refl, ap, ◌∙◌}
+use mathlib.Core.Path.{◌≡◌, refl, sym, ap, ◌∙◌}
 use mathlib.Core.Bool.{Bool, true, false, cond, ◌&&◌, and-false}
-use mathlib.Core.List.{List, ◌++◌, append-nil}
+use mathlib.Core.List.{List, [], ◌++◌, append-nil}
 use Prim.Native.Nat.{ℕ, zero, suc, ◌+◌, ◌-◌, ◌*◌, ◌/◌, ◌%◌, ◌≤◌, ◌<◌}
-use native.Mathlib.Nat.{add-zero, zero-add}
+use native.Mathlib.Nat.{add-zero, zero-add, zero-mul, suc-mul}
+use native.Mathlib.Numerals.{add-one}
 use native.Mathlib.Omega.{arith}
 use borrow.Author.Tests.{eqb-true, leb-true, leb-false, lt-ltb, le-ltb}
 use lib.Dec.{eqb, leb, ltb}
 use lib.ListN.{length, take, drop, set, get_or, length-take, length-drop, drop_of_length-le, take-append-drop}
-use lib.Seq.{take_all, take-set-le, drop-set-add}
+use lib.Seq.{take_all, take-set-le, drop-set-add, get_or-take, get_or-drop, length-take-le}
 use lib.Ieee.{Float, nan}
+use Rattle.std.proofs.lemmas.List.{set-append_right}
+use Rattle.std.specs.Simd.{first_chunks}
+use Rattle.grid.specs.declared.Grid.{Grid}
 use Rattle.layout.specs.Place.{blocks_over, cell_at, run_at, payload_length, corner, in_blocks}
 use Rattle.layout.specs.Written.{laid_row}
-use Rattle.layout.proofs.Entries.{below_suc}
+use Rattle.layout.proofs.Entries.{below_suc, copied, copy_turn}
 use Rattle.layout.proofs.Places.{cell_in_row, cell_inside, line_inside}
 use Rattle.layout.proofs.Blocks.{blocks_are, blocks_same, set_blocks}
+use Rattle.builder.specs.private.Room.{RowRoom}
 use Rattle.builder.specs.private.Runs.{laid_runs, stored}
+
+-- the cells of a row's chunks
+chunk_cell : (n count k i : ℕ) (xs : List Float) → k < count → i < n → get_or (get_or (first_chunks n count xs) k []) i nan ≡ get_or xs (k * n + i) nan
+chunk_cell n zero k i xs h l = absurd (omega arith)
+chunk_cell n (suc m) zero i xs h l = get_or-take n xs i nan l ∙ rw (zero-mul n, zero-add i)
+chunk_cell n (suc m) (suc k) i xs h l =
+    let e : n + (k * n + i) ≡ suc k * n + i = omega (arith, suc-mul k n) in
+    chunk_cell n m k i (drop n xs) (omega arith) l ∙ get_or-drop n xs (k * n + i) nan ∙ ap (λ (j : ℕ). get_or xs j nan) e
+
+chunk_length : (n count k : ℕ) (xs : List Float) → k < count → count * n ≤ length xs → length (get_or (first_chunks n count xs) k []) ≡ n
+chunk_length n zero k xs h l = absurd (omega arith)
+chunk_length n (suc m) zero xs h l = length-take-le n xs (omega (arith, suc-mul m n))
+chunk_length n (suc m) (suc k) xs h l = chunk_length n m k (drop n xs) (omega arith) (rw (length-drop n xs) (omega (arith, suc-mul m n)))
 
 module _ (row : List Float) where
   -- ---- runs one after another
@@ -32,21 +50,57 @@ module _ (row : List Float) where
       let e : 0 + ((c + n) / 8 * 64 + (c + n) % 8) ≡ c * 8 + n = omega arith in
       rw (run_stored t c n h (omega arith), e)
 
-  pub run_turn : (t : List Float) (c : ℕ) → c % 8 ≡ 0 → stored (laid_runs 0 t row 0 c) (c * 8) row c 8 ≡ laid_runs 0 t row 0 (c + 8)
-  run_turn t c h = run_stored (laid_runs 0 t row 0 c) c 8 h (omega arith) ∙ runs_more 0 t c 8
+  -- cells that are those of a row from a column on
+  stored_part : (t part : List Float) (at c n : ℕ) → ((i : ℕ) → i < n → get_or part i nan ≡ get_or row (c + i) nan) → stored t at part 0 n ≡ stored t at row c n
+  stored_part t part at c zero h = refl
+  stored_part t part at c (suc n) h = rw (stored_part t part at c n (λ i l. h i (omega arith)), zero-add n, h n (omega arith))
 
-  pub run_end : (t : List Float) (c whole : ℕ) → c ≡ whole → whole ≤ length row
-      → laid_runs 0 (laid_runs 0 t row 0 c) row whole (length row - whole) ≡ laid_runs 0 t row 0 (length row)
-  run_end t c whole e h = let all : whole + (length row - whole) ≡ length row = omega arith in rw (e, runs_more 0 t whole (length row - whole), all)
+  -- the kth run, or what is left of it
+  pub laid_turn : (t part : List Float) (k n : ℕ) → n ≤ 8 → ((i : ℕ) → i < n → get_or part i nan ≡ get_or row (k * 8 + i) nan)
+      → stored (laid_runs 0 t row 0 (k * 8)) (k * 64) part 0 n ≡ laid_runs 0 t row 0 (k * 8 + n)
+  laid_turn t part k n h same =
+      let place : k * 64 ≡ k * 8 * 8 = omega arith in
+      let first : k * 8 % 8 ≡ 0 = omega arith in
+      stored_part (laid_runs 0 t row 0 (k * 8)) part (k * 64) (k * 8) n same
+      ∙ rw place (run_stored (laid_runs 0 t row 0 (k * 8)) (k * 8) n first h)
+      ∙ runs_more 0 t (k * 8) n
 
-  -- the cells behind the whole runs, one by one
-  pub rest_turn : (t : List Float) (from c : ℕ) → from ≤ c
-      → set (laid_runs 0 t row from (c - from)) (c / 8 * 64 + c % 8) (get_or row c nan) ≡ laid_runs 0 t row from (c + 1 - from)
-  unfolding run_at
-  rest_turn t from c h =
-      let e : c + 1 - from ≡ suc (c - from) = omega arith in
-      let f : from + (c - from) ≡ c = omega arith in
-      rw (e, f, zero-add (c / 8 * 64 + c % 8))
+  -- the row spliced in at a place is its cells stored there
+  spliced : (t : List Float) (at n : ℕ) → at + n ≤ length t → n ≤ length row → take at t ++ copied (drop at t) row n ≡ stored t at row 0 n
+  spliced t at zero h k = take-append-drop at t
+  spliced t at (suc n) h k =
+      let y = get_or row n nan in
+      let part = copied (drop at t) row n in
+      let turn : set part n y ≡ copied (drop at t) row (n + 1) = copy_turn (drop at t) row n (omega arith) (rw (length-drop at t) (omega arith)) in
+      let off : at + n - at ≡ n = omega arith in
+      let whole : set (take at t ++ part) (at + n) y ≡ take at t ++ copied (drop at t) row (n + 1)
+      = rw (set-append_right (take at t) part at (at + n) y (length-take-le at t (omega arith)) (omega arith), off, turn) in
+      sym (rw (add-one n) at whole) ∙ rw (spliced t at n (omega arith) (omega arith), zero-add n)
+
+  pub stored_whole : (t : List Float) (at : ℕ) → at + length row ≤ length t → take at t ++ (row ++ drop (length row) (drop at t)) ≡ stored t at row 0 (length row)
+  stored_whole t at h = rw (take_all (length row) row (omega arith)) at (spliced t at (length row) h (omega arith))
+
+  -- the kth of the whole runs, and the rest of the row
+  abbrev pub whole_runs : List (List Float)
+  whole_runs = first_chunks 8 (length row / 8) row
+
+  pub run_length : (k : ℕ) → k < length row / 8 → length (get_or whole_runs k []) ≡ 8
+  run_length k h = chunk_length 8 (length row / 8) k row h (omega arith)
+
+  pub run_laid : (t : List Float) (k : ℕ) → k < length row / 8
+      → stored (laid_runs 0 t row 0 (k * 8)) (k * 64) (get_or whole_runs k []) 0 (length (get_or whole_runs k [])) ≡ laid_runs 0 t row 0 ((k + 1) * 8)
+  run_laid t k h =
+      let next : (k + 1) * 8 ≡ k * 8 + 8 = omega arith in
+      rw (run_length k h, next)
+      (laid_turn t (get_or whole_runs k []) k 8 (omega arith) (λ i l. chunk_cell 8 (length row / 8) k i row h l))
+
+  pub rest_laid : (t : List Float) (k : ℕ) → k ≡ length row / 8
+      → stored (laid_runs 0 t row 0 (k * 8)) (k * 64) (drop (k * 8) row) 0 (length (drop (k * 8) row)) ≡ laid_runs 0 t row 0 (length row)
+  rest_laid t k e =
+      let all : length row ≡ k * 8 + (length row - k * 8) = omega arith in
+      rw (length-drop (k * 8) row)
+      (laid_turn t (drop (k * 8) row) k (length row - k * 8) (omega arith) (λ i l. get_or-drop (k * 8) row i nan)
+      ∙ ap (λ (n : ℕ). laid_runs 0 t row 0 n) (sym all))
 
   -- ---- the part of a table from a start on, lent to be written, and the table
 
@@ -91,13 +145,10 @@ up_to c w = go (leb c w) refl
     go true e = lt-ltb c (suc w) (omega (arith, leb-true c w e))
     go false e = le-ltb c (suc w) (leb-false c w e)
 
--- a whole run is in the row, and in the part that is lent where its last cell is
-pub run_fits : (c n m : ℕ) → c % 8 ≡ 0 → c < n / 8 * 8 → (c + 7 < n → run_at (c + 7) < m) → (c * 8 + 8 ≤ m) × (c + 8 ≤ n) × (c + 8 ≤ n / 8 * 8)
+-- r cells of the kth run are in the part that is lent where the last of them is
+pub part_fits : (k r n m : ℕ) → 0 < r → r ≤ 8 → k * 8 + r ≤ n → ((c : ℕ) → c < n → run_at c < m) → k * 64 + r ≤ m
 unfolding run_at
-run_fits c n m h k l =
-    let on : c + 8 ≤ n / 8 * 8 = omega arith in
-    let last = l (omega arith) in
-    (omega (arith, last), omega arith, on)
+part_fits k r n m some few h inside = let last = inside (k * 8 + r - 1) (omega arith) in omega (arith, last)
 
 -- the row laid over its table row
 pub laid_row_lem : (w at start : ℕ) (cells row : List Float) → start ≡ cell_at w at 0 → length row ≡ suc w
@@ -119,5 +170,6 @@ pub run_inside : (w h at start c : ℕ) (cells : List Float) → start ≡ cell_
 run_inside w h at start c cells e right inside k =
     rw (length-take, length-drop) (omega (arith, cell_in_row w at c, cell_inside w h at c inside (omega arith)))
 
-pub start_inside : (w h at start : ℕ) → start ≡ cell_at w at 0 → at ≤ h → start < payload_length w h
-start_inside w h at start e inside = rw e (cell_inside w h at 0 inside (omega arith))
+-- and its first cell too
+pub starts_inside : (g : Grid) (at n t start : ℕ) → RowRoom g at n t → start ≡ cell_at g.width at 0 → start < t
+starts_inside g at n t start r e = rw (e, r.table) (cell_inside g.width g.height at 0 r.inside (omega arith))

@@ -1,7 +1,7 @@
 -- Document 01, 'Building' and 'When a call refuses': start, row and finish, each with everything that it is lent as it is left.
 use Rattle.std.specs.Prelude.{List, Bool, not, cond, ◌&&◌, ◌||◌, ℕ, suc, ◌*◌, ◌/◌, ◌%◌, eqb, leb, ltb, length, replicate, get_or, Float}
 use Rattle.std.specs.Float.{nan}
-use Rattle.refusal.specs.Refusal.{Outcome, answered, refused, first, passed, outcome, unless_refused}
+use Rattle.refusal.specs.Refusal.{Outcome, first, passed, outcome, unless_refused}
 use Rattle.refusal.specs.Refusal.{not_its_makers, wrong_table_length, wrong_accumulator_length, wrong_coarse_length}
 use Rattle.refusal.specs.Refusal.{row_after_last, wrong_row_length, finish_before_last}
 use Rattle.float.specs.Float.{f64zero}
@@ -18,10 +18,6 @@ use Rattle.builder.specs.Rows.{coarse_filled, handed_on}
 use Rattle.builder.specs.declared.Builder.{Builder}
 use Rattle.builder.specs.declared.BuiltTable.{BuiltTable}
 use Rattle.builder.specs.declared.Lengths.{Lengths}
-use Rattle.builder.specs.declared.BuilderAnswer.{BuilderAnswer}
-use Rattle.builder.specs.declared.BuilderAnswer.TheVariants as builder
-use Rattle.builder.specs.declared.FinishAnswer.{FinishAnswer}
-use Rattle.builder.specs.declared.FinishAnswer.TheVariants as finish
 
 -- what a builder is lent: accumulator and correction rows, a coarse row, the table
 pub record Buffers : Type 0 where
@@ -35,15 +31,6 @@ buffers acc corr coarse table = record { acc = acc; corr = corr; coarse = coarse
 
 abbrev pub lengths_of : Buffers → Lengths
 lengths_of m = record { acc = length m.acc; corr = length m.corr; coarse = length m.coarse; table = length m.table }
-
--- what the answers are in document 01's terms
-abbrev pub builder_outcome : BuilderAnswer → Outcome Builder
-builder_outcome (builder.Accepted b) = answered b
-builder_outcome (builder.Refused n) = refused n
-
-abbrev pub finish_outcome : FinishAnswer → Outcome BuiltTable
-finish_outcome (finish.Finished t) = answered t
-finish_outcome (finish.Refused n) = refused n
 
 -- ---- the lengths of what is lent (document 02, C-13)
 

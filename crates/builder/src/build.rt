@@ -1,41 +1,26 @@
 // The builder's calls: start, row, finish. A call that refuses changes nothing that it is lent.
-ghost use Rattle.std.specs.Prelude.{◌≡◌, length, replicate};
-ghost use Rattle.float.specs.Float.{f64zero};
-ghost use Rattle.refusal.specs.Refusal.{outcome};
-ghost use Rattle.builder.specs.Build.{buffers, builder_outcome, finish_outcome, start_refusal, first_builder, start_call, row_call, row_left, finish_call};
+ghost use Rattle.std.specs.Prelude.{◌≡◌};
+ghost use Rattle.refusal.specs.Refusal.{outcome, outcome_of};
+ghost use Rattle.builder.specs.Build.{start_refusal, first_builder, start_call, row_call, row_left, finish_call};
+ghost use Rattle.builder.specs.Lent.{buffers_lent, buffers_shown, SameReferences};
 
-use crate::checks::lent_refusal;
-use crate::{Builder, BuilderAnswer, BuiltTable, FinishAnswer, Lengths};
-use decimation::{Decimation, DecimationAnswer};
+use crate::checks::check_lengths;
+use crate::{Builder, BuiltTable, Lengths, Lent};
+use decimation::Decimation;
 use grid::Grid;
 use raster::CellTallies;
-
-fn clear(cells: &mut [f64])
-    ensures { cells.new ≡ replicate (length cells.old) f64zero }
-{
-    let mut i = 0;
-    while i < cells.len() {
-        cells[i] = 0.0;
-        i += 1;
-    }
-}
+use refusal::Refusal;
 
 impl Builder {
     // What a start gives, by the lengths of what it is lent.
-    fn begin(source: Grid, factor: u32, nodata: u32, lent: Lengths) -> BuilderAnswer
-        ensures { builder_outcome result ≡ outcome (start_refusal source factor lent) (first_builder source factor nodata) }
+    #[tactic(auto, using(crate::proofs::Calls::begin_barred, crate::proofs::Calls::begin_refused, crate::proofs::Calls::begun, crate::proofs::Calls::made_valid))]
+    fn begin(source: Grid, factor: u32, nodata: u32, lengths: Lengths) -> Result<Builder, Refusal>
+        ensures { outcome_of result ≡ outcome (start_refusal source factor lengths) (first_builder source factor nodata) }
     {
-        let made = Decimation::new(source, factor);
-        let d = match made {
-            DecimationAnswer::Refused(n) => return BuilderAnswer::Refused(n),
-            DecimationAnswer::Made(d) => d,
-        };
-        let n = lent_refusal(d, lent, refusal::PASSED);
-        if n != refusal::PASSED {
-            return BuilderAnswer::Refused(n);
-        }
-        BuilderAnswer::Accepted(Builder {
-            decimation: d,
+        let decimation = Decimation::new(source, factor)?;
+        check_lengths(decimation, lengths)?;
+        Ok(Builder {
+            decimation,
             nodata,
             rows: 0,
             digest: digest::FNV_OFFSET_BASIS,
@@ -44,94 +29,53 @@ impl Builder {
     }
 
     // What is not zeroed here is not read before a row is laid over it.
+    #[tactic(auto, using(crate::proofs::Calls::left_refused, refusal::proofs::Chains::answered_passed), unfolding(crate::specs::Build::start_call, crate::specs::Build::first_builder, crate::specs::Build::cleared_buffers))]
     pub fn start(
         source: Grid,
         factor: u32,
         nodata: u32,
-        acc: &mut [f64],
-        corr: &mut [f64],
-        coarse: &mut [f64],
-        table: &mut [f64],
-    ) -> BuilderAnswer
-        ensures { (builder_outcome result ≡ (start_call source factor nodata
-            (buffers acc.old corr.old coarse.old table.old)).answer)
-            × (buffers acc.new corr.new coarse.new table.new
-            ≡ (start_call source factor nodata (buffers acc.old corr.old coarse.old table.old)).buffers) }
+        lent: &mut Lent<&mut [f64]>,
+    ) -> Result<Builder, Refusal>
+        ensures answer { outcome_of result ≡ (start_call source factor nodata (buffers_lent lent.old)).answer }
+        ensures left { buffers_lent lent.new ≡ (start_call source factor nodata (buffers_lent lent.old)).buffers }
+        ensures same_references { SameReferences lent.old lent.new }
     {
-        let lent = Lengths {
-            acc: acc.len(),
-            corr: corr.len(),
-            coarse: coarse.len(),
-            table: table.len(),
-        };
-        let begun = Builder::begin(source, factor, nodata, lent);
-        let BuilderAnswer::Accepted(b) = begun else {
-            return begun;
-        };
-        let d = b.decimation;
-        clear(acc);
-        clear(corr);
-        layout::clear_edges(d.grid, table);
-        begun
+        let begun = Builder::begin(source, factor, nodata, lent.read().lengths())?;
+        lent.acc.fill(0.0);
+        lent.corr.fill(0.0);
+        layout::clear_edges(begun.decimation.grid, lent.table);
+        Ok(begun)
     }
 
-    pub fn row(
-        self,
-        row: &mut [u32],
-        acc: &mut [f64],
-        corr: &mut [f64],
-        coarse: &mut [f64],
-        table: &mut [f64],
-    ) -> BuilderAnswer
-        ensures { (builder_outcome result ≡ (row_call self row.old
-            (buffers acc.old corr.old coarse.old table.old)).answer)
-            × (row.new ≡ row_left self row.old (buffers acc.old corr.old coarse.old table.old))
-            × (buffers acc.new corr.new coarse.new table.new
-            ≡ (row_call self row.old (buffers acc.old corr.old coarse.old table.old)).buffers) }
+    #[tactic(auto, using(refusal::proofs::Chains::refused_as, refusal::proofs::Chains::left_as), unfolding(crate::specs::Build::row_call, crate::specs::Build::row_left))]
+    pub fn row(self, row: &mut [u32], lent: &mut Lent<&mut [f64]>) -> Result<Builder, Refusal>
+        ensures answer { outcome_of result ≡ (row_call self row.old (buffers_lent lent.old)).answer }
+        ensures row_left { row.new ≡ row_left self row.old (buffers_lent lent.old) }
+        ensures left { buffers_lent lent.new ≡ (row_call self row.old (buffers_lent lent.old)).buffers }
+        ensures same_references { SameReferences lent.old lent.new }
     {
-        let lent = Lengths {
-            acc: acc.len(),
-            corr: corr.len(),
-            coarse: coarse.len(),
-            table: table.len(),
-        };
-        let n = self.row_refusal(row.len(), lent);
-        if n != refusal::PASSED {
-            return BuilderAnswer::Refused(n);
-        }
-        let swept = sweep::sweep_row(acc, corr, row, self.nodata, self.digest);
-        self.hand_on(acc, coarse, table);
-        let decimation = self.decimation;
-        let before = self.tallies;
-        let tallies = before.plus(swept.tallies);
-        BuilderAnswer::Accepted(Builder {
-            decimation,
-            nodata: self.nodata,
+        self.check_row(row.len(), lent.read().lengths())?;
+        let acc = &mut *lent.acc;
+        let swept = sweep::sweep_row(acc, lent.corr, row, self.nodata, self.digest);
+        self.hand_on(acc, lent.coarse, lent.table);
+        Ok(Builder {
             rows: self.rows + 1,
             digest: swept.digest,
-            tallies,
+            tallies: self.tallies.plus(swept.tallies),
+            ..self
         })
     }
 
-    pub fn finish(self, acc: &[f64], corr: &[f64], coarse: &[f64], table: &[f64]) -> FinishAnswer
-        ensures { finish_outcome result ≡ finish_call self (buffers acc.now corr.now coarse.now table.now) }
+    #[tactic(auto, using(refusal::proofs::Chains::refused_as, crate::proofs::Builders::total_inside), unfolding(crate::specs::Build::finish_call, crate::specs::Build::built_table))]
+    pub fn finish(self, lent: Lent<&[f64]>) -> Result<BuiltTable, Refusal>
+        ensures { outcome_of result ≡ finish_call self (buffers_shown lent.entry) }
     {
-        let lent = Lengths {
-            acc: acc.len(),
-            corr: corr.len(),
-            coarse: coarse.len(),
-            table: table.len(),
-        };
-        let n = self.finish_refusal(lent);
-        if n != refusal::PASSED {
-            return FinishAnswer::Refused(n);
-        }
-        let tallies = self.tallies;
+        self.check_finish(lent.lengths())?;
         let decimation = self.decimation;
-        FinishAnswer::Finished(BuiltTable {
+        Ok(BuiltTable {
             digest: self.digest,
-            tallies,
-            total: acc[decimation.source.width as usize],
+            tallies: self.tallies,
+            total: lent.acc[decimation.source.width as usize],
             decimation,
         })
     }

@@ -1,68 +1,62 @@
 // The checks of the builder's calls. They look at the lengths of what is lent, never at what it holds.
 ghost use Rattle.std.specs.Prelude.{◌≡◌, true};
+ghost use Rattle.refusal.specs.Refusal.{number_in, passed};
 ghost use Rattle.decimation.specs.Decimation.{valid_decimation};
 ghost use Rattle.builder.specs.Build.{lent_refusal, valid_builder, row_refusal, finish_refusal};
 
 use crate::{Builder, Lengths};
 use decimation::Decimation;
-use refusal::first;
+use refusal::{Refusal, refuse_if};
 
-// The number for the first length that is wrong, else that of the checks after them.
-pub(crate) fn lent_refusal(d: Decimation, lent: Lengths, rest: u32) -> u32
+// 11, 29, 30.
+#[tactic(auto, using(crate::proofs::Builders::lent_read))]
+pub(crate) fn check_lengths(d: Decimation, lengths: Lengths) -> Result<(), Refusal>
     requires { valid_decimation d ≡ true }
-    ensures { result ≡ lent_refusal d lent rest }
+    ensures { number_in result ≡ lent_refusal d lengths passed }
 {
     let wide = d.source.width as usize + 1;
     let narrow = d.grid.width as usize + 1;
-    let off_table = lent.table != layout::payload_len(d.grid);
-    let off_rows = (lent.acc != wide) | (lent.corr != wide);
-    let off_coarse = lent.coarse != narrow;
-    let n30 = first(off_coarse, refusal::WRONG_COARSE_LENGTH, rest);
-    let n29 = first(off_rows, refusal::WRONG_ACCUMULATOR_LENGTH, n30);
-    first(off_table, refusal::WRONG_TABLE_LENGTH, n29)
+    let off_table = lengths.table != layout::payload_len(d.grid);
+    let off_rows = (lengths.acc != wide) | (lengths.corr != wide);
+    let off_coarse = lengths.coarse != narrow;
+    refuse_if(off_table, Refusal::WrongTableLength)?;
+    refuse_if(off_rows, Refusal::WrongAccumulatorLength)?;
+    refuse_if(off_coarse, Refusal::WrongCoarseLength)
 }
 
 impl Builder {
     // Whether a start or a row call could have given it.
+    #[tactic(auto, using(raster::proofs::Tallies::total_is), unfolding(crate::specs::Build::valid_builder))]
     fn is_valid(self) -> bool
         ensures { result ≡ valid_builder self }
     {
         let d = self.decimation;
-        if !d.is_valid() {
-            return false;
-        }
-        if self.rows > d.source.height {
-            return false;
-        }
-        let tallies = self.tallies;
-        tallies.total() == self.rows as u64 * d.source.width as u64
+        let cells = self.rows as u64 * d.source.width as u64;
+        d.is_valid() && self.rows <= d.source.height && self.tallies.total() == cells
     }
 
-    // The number of a row call's refusal, or PASSED.
-    pub(crate) fn row_refusal(self, row: usize, lent: Lengths) -> u32
-        ensures { result ≡ row_refusal self row lent }
+    // The checks of a row call: 22, 11, 29, 30, 13, 12.
+    #[tactic(auto, using(crate::proofs::Builders::lent_ahead, crate::proofs::Builders::lent_past, crate::proofs::Builders::standing), unfolding(crate::specs::Build::row_refusal))]
+    pub(crate) fn check_row(self, row: usize, lengths: Lengths) -> Result<(), Refusal>
+        ensures { number_in result ≡ row_refusal self row lengths }
     {
-        if !self.is_valid() {
-            return refusal::NOT_ITS_MAKERS;
-        }
+        refuse_if(!self.is_valid(), Refusal::NotItsMakers)?;
         let d = self.decimation;
         let late = self.rows == d.source.height;
         let off = row != d.source.width as usize;
-        let n12 = first(off, refusal::WRONG_ROW_LENGTH, refusal::PASSED);
-        let n13 = first(late, refusal::ROW_AFTER_LAST, n12);
-        lent_refusal(d, lent, n13)
+        check_lengths(d, lengths)?;
+        refuse_if(late, Refusal::RowAfterLast)?;
+        refuse_if(off, Refusal::WrongRowLength)
     }
 
-    // The number of a finish's refusal, or PASSED.
-    pub(crate) fn finish_refusal(self, lent: Lengths) -> u32
-        ensures { result ≡ finish_refusal self lent }
+    // The checks of a finish: 22, 11, 29, 30, 14.
+    #[tactic(auto, using(crate::proofs::Builders::lent_ahead, crate::proofs::Builders::lent_past, crate::proofs::Builders::standing), unfolding(crate::specs::Build::finish_refusal))]
+    pub(crate) fn check_finish(self, lengths: Lengths) -> Result<(), Refusal>
+        ensures { number_in result ≡ finish_refusal self lengths }
     {
-        if !self.is_valid() {
-            return refusal::NOT_ITS_MAKERS;
-        }
-        let d = self.decimation;
-        let early = self.rows < d.source.height;
-        let n14 = first(early, refusal::FINISH_BEFORE_LAST, refusal::PASSED);
-        lent_refusal(d, lent, n14)
+        refuse_if(!self.is_valid(), Refusal::NotItsMakers)?;
+        check_lengths(self.decimation, lengths)?;
+        let early = self.rows < self.decimation.source.height;
+        refuse_if(early, Refusal::FinishBeforeLast)
     }
 }

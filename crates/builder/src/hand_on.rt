@@ -10,29 +10,22 @@ ghost use Rattle.builder.specs.private.Runs.{laid_runs, stored};
 use crate::Builder;
 use grid::Grid;
 
-fn fill(coarse: &mut [f64], acc: &[f64], factor: usize)
-    requires { length coarse.old * factor < length acc.now + factor }
-    ensures { coarse.new ≡ sampled acc.now factor coarse.old }
-{
-    let mut j = 0;
-    while j < coarse.len() {
-        coarse[j] = acc[j * factor];
-        j += 1;
-    }
-}
-
 // The coarse row takes every factor-th entry of the accumulator; at factor 1 it is not written.
+#[tactic(auto, using(layout::proofs::Entries::entries_turn, layout::proofs::Entries::entries_end, crate::proofs::HandedRows::sample_in), unfolding(crate::specs::Rows::coarse_filled))]
 fn fill_coarse(coarse: &mut [f64], acc: &[f64], factor: usize)
     requires { length coarse.old * factor < length acc.now + factor }
     ensures { coarse.new ≡ coarse_filled acc.now coarse.old factor }
 {
     if factor != 1 {
-        fill(coarse, acc, factor);
+        for (j, cell) in coarse.iter_mut().enumerate() {
+            *cell = acc[j * factor];
+        }
     }
 }
 
 // The row handed on: the accumulator itself at factor 1, else the coarse row. A prefix sum over blocks and one over
 // cells agree at every block's corner, so nothing is summed again.
+#[tactic(auto, unfolding(crate::specs::Rows::handed_on))]
 fn decimated<'a>(acc: &'a [f64], coarse: &'a [f64], factor: usize, n: usize) -> &'a [f64]
     requires { (n ≤ length acc.now) × (n ≤ length coarse.now) }
     ensures { result.now ≡ handed_on acc.now coarse.now factor n }
@@ -43,45 +36,32 @@ fn decimated<'a>(acc: &'a [f64], coarse: &'a [f64], factor: usize, n: usize) -> 
     &coarse[..n]
 }
 
-// A run: 8 cells that stand one behind another.
-fn run(dst: &mut [f64], at: usize, src: &[f64], from: usize)
-    requires { (at + 8 ≤ length dst.old) × (from + 8 ≤ length src.now) }
-    ensures { dst.new ≡ stored dst.old at src.now from 8 }
+// Cells that stand one behind another, from a place on.
+#[tactic(auto, using(crate::proofs::Laid::stored_whole))]
+fn store(dst: &mut [f64], at: usize, cells: &[f64])
+    requires { at + length cells.now ≤ length dst.old }
+    ensures { dst.new ≡ stored dst.old at cells.now 0 (length cells.now) }
 {
-    let mut i = 0;
-    while i < 8 {
-        dst[at + i] = src[from + i];
-        i += 1;
-    }
+    dst[at..at + cells.len()].copy_from_slice(cells);
 }
 
-// The cells from a column on, one by one.
-fn rest(dst: &mut [f64], src: &[f64], from: usize)
-    requires { (from ≤ length src.now) × ((c : ℕ) → c < length src.now → run_at c < length dst.old) }
-    ensures { dst.new ≡ laid_runs 0 dst.old src.now from (length src.now - from) }
-{
-    let mut c = from;
-    while c < src.len() {
-        dst[c / 8 * 64 + c % 8] = src[c];
-        c += 1;
-    }
-}
-
-// A table row stands in runs, 64 places apart, of which the last may be cut short.
+// A table row stands in runs of 8, 64 places apart, of which the last may be cut short.
 fn emit(dst: &mut [f64], src: &[f64])
     requires { (c : ℕ) → c < length src.now → run_at c < length dst.old }
     ensures { dst.new ≡ laid_runs 0 dst.old src.now 0 (length src.now) }
 {
-    let whole = src.len() / 8 * 8;
-    let mut c = 0;
-    while c < whole {
-        run(dst, c * 8, src, c);
-        c += 8;
+    let (runs, rest) = src.as_chunks::<8>();
+    for (k, run) in runs.iter().enumerate() {
+        store(dst, k * 64, run);
     }
-    rest(dst, src, whole);
+    // Where no cell is left, there may be no place left either.
+    if !rest.is_empty() {
+        store(dst, runs.len() * 64, rest);
+    }
 }
 
 // A row is written over the cells of a table row: the table is lent from the first of them on.
+#[tactic(auto, using(crate::proofs::Laid::laid_row_lem, crate::proofs::Laid::run_inside))]
 pub(crate) fn lay(table: &mut [f64], grid: Grid, at: u32, row: &[f64])
     requires { RowRoom grid at (length row.now) (length table.old) }
     ensures { table.new ≡ laid_row grid.width table.old at row.now }
@@ -92,6 +72,7 @@ pub(crate) fn lay(table: &mut [f64], grid: Grid, at: u32, row: &[f64])
 
 impl Builder {
     // The factor divides the height, so the last row always completes a table row: no block is left part filled.
+    #[tactic(auto, using(decimation::proofs::Factors::framed, crate::proofs::HandedRows::length_coarse_filled, crate::proofs::Kept::samples, crate::proofs::Kept::acc_wide, crate::proofs::Kept::coarse_wide))]
     pub(crate) fn hand_on(self, acc: &[f64], coarse: &mut [f64], table: &mut [f64])
         requires { (Room self.decimation (length acc.now) (length coarse.old) (length table.old))
             × (self.rows < self.decimation.source.height) }

@@ -1,6 +1,7 @@
 // The builder of a summed-area table: a start, a row call for each source row, a finish (table.rs).
 #![tactic(auto)]
 
+mod buffers;
 mod build;
 mod checks;
 mod hand_on;
@@ -27,17 +28,15 @@ pub struct BuiltTable {
     pub decimation: Decimation,
 }
 
-// What the calls give: an answer, or the refusal's number.
-#[derive(Clone, Copy)]
-pub enum BuilderAnswer {
-    Accepted(Builder),
-    Refused(u32),
-}
-
-#[derive(Clone, Copy)]
-pub enum FinishAnswer {
-    Finished(BuiltTable),
-    Refused(u32),
+// The buffers that a call is lent: accumulator and correction rows, a coarse row, the table. A start and a row write
+// them, a finish reads them.
+// (a) acc and corr stay two rows: at factor 1 the row handed on is the accumulator as it stands, and the C interface lends both.
+#[derive(Drop)]
+pub struct Lent<S> {
+    pub acc: S,
+    pub corr: S,
+    pub coarse: S,
+    pub table: S,
 }
 
 // The lengths of what a call is lent.

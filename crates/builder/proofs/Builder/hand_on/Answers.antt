@@ -6,7 +6,7 @@ use native.Mathlib.Numerals.{add-one}
 use lib.ListN.{length}
 use Rattle.decimation.proofs.Factors.{framed}
 use Rattle.builder.proofs.HandedRows.{length_coarse_filled, length_handed_on}
-use Rattle.builder.proofs.Kept.{samples, acc_wide, coarse_wide, row_room, completed_inside}
+use Rattle.builder.proofs.Kept.{acc_wide, coarse_wide, row_room, completed_inside}
 use Rattle.builder.proofs.Calls.{handed_on_lem, not_handed_on}
 use Rattle.builder.proofs.Builder.hand_on.Goals as goal
 
@@ -15,19 +15,6 @@ nonzero_rem-rows c = (framed c.args.self.decimation c.requires.0.valid).some
 
 pub returns-then-rows-d-ne0 : goal.returns-then-rows-d-ne0
 returns-then-rows-d-ne0 c = let s = c.args in not_handed_on s.self s.acc.now s.coarse.now s.table.now c.if-rows-d-ne0.true
-
-pub fill_coarse-requires : goal.fill_coarse-requires
-fill_coarse-requires c = samples c.args.self.decimation _ _ _ c.requires.0
-
-pub nonzero_div-rows : goal.nonzero_div-rows
-nonzero_div-rows c = (framed c.args.self.decimation c.requires.0.valid).some
-
-pub decimated-requires : goal.decimated-requires
-decimated-requires c =
-    let a = c.args in
-    let d = a.self.decimation in
-    let filled = ap length c.fill_coarse.ensures ∙ length_coarse_filled a.acc.now a.coarse.now d.factor in
-    (rw (add-one d.grid.width) (acc_wide d _ _ _ c.requires.0), rw (add-one d.grid.width, filled) (coarse_wide d _ _ _ c.requires.0))
 
 pub lay-requires : goal.lay-requires
 lay-requires c =

@@ -1,40 +1,37 @@
 -- `builder::hand_on::emit` meets its contract.
 -- Assumes nothing.
-use mathlib.Core.Path.{refl, ◌∙◌}
-use Prim.Native.Nat.{◌+◌}
+use mathlib.Core.Path.{◌≡◌}
+use Prim.Native.Nat.{◌/◌, ◌<◌}
 use native.Mathlib.Omega.{arith}
 use lib.ListN.{length}
-use Rattle.builder.proofs.Laid.{run_fits, run_turn, run_end}
+use Rattle.builder.proofs.Laid.{part_fits, run_length, run_laid, rest_laid}
 use Rattle.builder.proofs.hand_on.emit.Goals as goal
 
-pub loop-c-init : goal.loop-c-init
-loop-c-init c = (refl, omega arith, omega arith, refl)
+pub store-requires : goal.store-requires
+store-requires c =
+    let src = c.args.src.now in
+    let inside : c.loop-k.k < length src / 8 = omega (arith, c.as_chunks.ensures.front_len) in
+    rw (c.as_chunks.ensures.front, run_length src c.loop-k.k inside, c.loop-k.auto.dst)
+    (part_fits c.loop-k.k 8 (length src) (length c.args.dst.now) (omega arith) (omega arith) (omega arith) c.requires)
 
-pub overflow_mul-c : goal.overflow_mul-c
-overflow_mul-c c = omega (arith, (run_fits c.loop-c.c (length c.args.src.now) (length c.args.dst.now) c.loop-c.invariant.2 c.loop-c-test.true (c.requires (c.loop-c.c + 7))).0)
+pub loop-k-preserved : goal.loop-k-preserved
+loop-k-preserved c =
+    let src = c.args.src.now in
+    let inside : c.loop-k.k < length src / 8 = omega (arith, c.as_chunks.ensures.front_len) in
+    rw (c.store.ensures, c.loop-k.invariant, c.as_chunks.ensures.front) (run_laid src c.args.dst.now c.loop-k.k inside)
 
-pub run-requires : goal.run-requires
-run-requires c = let f = run_fits c.loop-c.c (length c.args.src.now) (length c.args.dst.now) c.loop-c.invariant.2 c.loop-c-test.true (c.requires (c.loop-c.c + 7)) in (rw c.loop-c.invariant.0 f.0, f.1)
+pub store-requires-then-not-is_empty : goal.store-requires-then-not-is_empty
+store-requires-then-not-is_empty c =
+    let src = c.args.src.now in
+    let e = c.as_chunks.ensures in
+    rw (c.loop-k.auto.dst)
+    (part_fits (length c.as_chunks.result.0.now) (length c.as_chunks.result.1.now) (length src) (length c.args.dst.now)
+    (grind arith) (omega (arith, e.back_len)) (omega (arith, e.front_len, e.back_len)) c.requires)
 
-pub overflow_add-c : goal.overflow_add-c
-overflow_add-c c = omega (arith, (run_fits c.loop-c.c (length c.args.src.now) (length c.args.dst.now) c.loop-c.invariant.2 c.loop-c-test.true (c.requires (c.loop-c.c + 7))).1)
-
-pub loop-c-preserved : goal.loop-c-preserved
-loop-c-preserved c =
-    let l = c.loop-c in
-    let a = c.args in (
-      c.run.auto.dst ∙ l.invariant.0,
-      (run_fits c.loop-c.c (length c.args.src.now) (length c.args.dst.now) c.loop-c.invariant.2 c.loop-c-test.true (c.requires (c.loop-c.c + 7))).2,
-      omega (arith, l.invariant.2),
-      rw (c.run.ensures, l.invariant.3) (run_turn a.src.now a.dst.now l.c l.invariant.2),
-    )
-
-pub rest-requires : goal.rest-requires
-rest-requires c = (omega arith, rw c.loop-c.invariant.0 c.requires)
-
-pub returns : goal.returns
-returns c =
-    let l = c.loop-c in
-    let a = c.args in
-    rw (c.rest.ensures, l.invariant.3)
-    (run_end a.src.now a.dst.now l.c _ (omega (arith, l.invariant.1, c.loop-c-test.false)) (omega arith))
+pub returns-then-not-is_empty : goal.returns-then-not-is_empty
+returns-then-not-is_empty c =
+    let src = c.args.src.now in
+    let e = c.as_chunks.ensures in
+    let runs : length c.as_chunks.result.0.now ≡ c.loop-k.k = omega arith in
+    let all : length src / 8 ≡ c.loop-k.k = omega (arith, e.front_len) in
+    rw (c.store-then-not-is_empty.ensures, c.loop-k.invariant, runs, e.back, all) (rest_laid src c.args.dst.now c.loop-k.k (omega arith))
