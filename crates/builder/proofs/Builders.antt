@@ -9,7 +9,7 @@ use native.Mathlib.Omega.{arith}
 use borrow.Author.Tests.{eqb-true, eqb-false, leb-true, ltb-false, eq-eqb, ne_eqb, le-leb, le-ltb, not-false}
 use lib.Dec.{eqb, leb, ltb}
 use lib.ListN.{length}
-use Rattle.refusal.proofs.Tests.{both, neither}
+use Rattle.std.proofs.lemmas.Bool.{and_parts, or_parts}
 use Rattle.refusal.proofs.Chains.{first_passed, number_not_0}
 use Rattle.refusal.specs.declared.Refusal.{Refusal}
 use Rattle.refusal.specs.Refusal.{first, passed, unless_refused, number_of, not_its_makers, wrong_table_length, wrong_accumulator_length}
@@ -39,8 +39,8 @@ pub record Standing (b : Builder) : Type 0 where
 pub standing : (b : Builder) → valid_builder b ≡ true → Standing b
 unfolding valid_builder
 standing b e =
-    let p = both _ (eqb (cells_of b.tallies) (b.rows * b.decimation.source.width)) e in
-    let q = both (valid_decimation b.decimation) (leb b.rows b.decimation.source.height) p.0 in
+    let p = and_parts _ (eqb (cells_of b.tallies) (b.rows * b.decimation.source.width)) e in
+    let q = and_parts (valid_decimation b.decimation) (leb b.rows b.decimation.source.height) p.0 in
     record { made = q.0; rows = leb-true _ _ q.1; tallied = eqb-true _ _ p.1 }
 
 -- the test of a builder whose decimation and rows are right
@@ -66,7 +66,7 @@ module _ (d : Decimation) (lent : Lengths) where
       let p11 = first_passed (off_table d lent) wrong_table_length _ tt e in
       let p29 = first_passed (off_rows d lent) wrong_accumulator_length _ tt p11.1 in
       let p30 = first_passed (off_coarse d lent) wrong_coarse_length rest tt p29.1 in
-      let rows = neither (not (eqb lent.acc (suc d.source.width))) _ p29.0 in (
+      let rows = or_parts (not (eqb lent.acc (suc d.source.width))) _ p29.0 in (
         record {
           acc = eqb-true _ _ (not-false _ rows.0);
           corr = eqb-true _ _ (not-false _ rows.1);

@@ -11,7 +11,7 @@ use lib.Ieee.Bits.{of_bits-fits}
 use lib.ListN.{length}
 use Rattle.refusal.specs.Refusal.{answered, first, passed, outcome, and_then, card_ends_early, card_too_large, sections_overlap}
 use Rattle.refusal.proofs.Chains.{first_passed, answered_passed, went_past, went_on}
-use Rattle.refusal.proofs.Tests.{both}
+use Rattle.std.proofs.lemmas.Bool.{and_parts}
 use Rattle.sections.specs.Sections.{inside, sections_apart, section_refusal}
 use Rattle.grid.specs.declared.Grid.{Grid}
 use Rattle.grid.specs.Grid.{grid_new}
@@ -50,7 +50,7 @@ header_accepted card g d h whole made e =
     let q = first_passed (table_too_large g) card_too_large (section_refusal (length card) rows circles) tt p.0 in
     let r = first_passed _ card_ends_early (first (not (sections_apart rows circles)) sections_overlap passed) tt q.1 in
     let from = (decimation_made g (u32_at card 44) d made).is in
-    let s = both (inside (length card) rows) (inside (length card) circles) (not-false _ r.0) in
+    let s = and_parts (inside (length card) rows) (inside (length card) circles) (not-false _ r.0) in
     subst (λ (y : Header). Accepted card y) p.1
     record {
       whole = whole;

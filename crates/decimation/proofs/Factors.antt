@@ -7,7 +7,7 @@ use native.Mathlib.Omega.{arith}
 use borrow.Author.Tests.{eqb-true, eqb-false, not-false}
 use lib.Dec.{eqb, lit≤}
 use lib.Ieee.Fits.{mul-fits}
-use Rattle.refusal.proofs.Tests.{both, neither}
+use Rattle.std.proofs.lemmas.Bool.{and_parts, or_parts}
 use Rattle.refusal.proofs.Chains.{first_passed, answered_passed, first_only}
 use Rattle.refusal.specs.Refusal.{answered, first, not_its_makers, factor_not_dividing}
 use Rattle.grid.specs.declared.Grid.{Grid}
@@ -25,8 +25,8 @@ pub record Divides (k : ℕ) (g : Grid) : Type 0 where
 
 pub on_factor : (g : Grid) (k : ℕ) → off_factor g k ≡ false → Divides k g
 on_factor g k e =
-    let p = neither (eqb k 0 || not (eqb (g.width % k) 0)) (not (eqb (g.height % k) 0)) e in
-    let q = neither (eqb k 0) (not (eqb (g.width % k) 0)) p.0 in
+    let p = or_parts (eqb k 0 || not (eqb (g.width % k) 0)) (not (eqb (g.height % k) 0)) e in
+    let q = or_parts (eqb k 0) (not (eqb (g.width % k) 0)) p.0 in
     let w = eqb-true (g.width % k) 0 (not-false _ q.1) in
     let h = eqb-true (g.height % k) 0 (not-false _ p.1) in
     record {
@@ -67,8 +67,8 @@ pub record Parts (d : Decimation) : Type 0 where
 pub valid_parts : (d : Decimation) → valid_decimation d ≡ true → Parts d
 unfolding valid_decimation
 valid_parts d e =
-    let p = both _ (same_grid d.grid (coarse_grid d.source d.factor)) e in
-    let q = both (valid_grid d.source) (eqb (factor_refusal d.source d.factor) 0) p.0 in
+    let p = and_parts _ (same_grid d.grid (coarse_grid d.source d.factor)) e in
+    let q = and_parts (valid_grid d.source) (eqb (factor_refusal d.source d.factor) 0) p.0 in
     record { source = q.0; factored = eqb-true _ _ q.1; same = p.1 }
 
 -- 22 is exact: a decimation of binary64 values that passes is the one that its maker gives

@@ -10,6 +10,7 @@ use grid::Grid;
 use refusal::{Refusal, refuse_if};
 
 // A source grid, the factor, and the coarse grid. `Decimation::new` checks them.
+// (a) No invariant: as of a grid, any fields can come across the C interface.
 #[derive(Clone, Copy)]
 pub struct Decimation {
     pub factor: u32,

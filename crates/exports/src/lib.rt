@@ -21,10 +21,11 @@ ghost use Rattle.exports.specs.Exports.{wide_builder as wide_builder_of, globe a
 mod numbers;
 mod records;
 
+use builder::Lent;
 use geodesy::LatLon;
 use grid::{Col, Row};
 use kernel::Kernel;
-use numbers::{digest_or_refusal, km_or_minus_one, north_or_refusal, people_or_minus_one};
+use numbers::{digest_or_refusal, north_or_refusal, or_minus_one};
 use radius::RadiusKm;
 use records::{globe, globe_kernel, wide_builder};
 use table::{ColSpan, RowBand, Table};
@@ -37,6 +38,7 @@ pub extern "C" fn exports_sqrt(x: f64) -> f64
 }
 
 // The rounded sum, to which what the rounding dropped is added, so that both are worked out.
+#[tactic(auto, unfolding(crate::specs::Exports::both_parts))]
 #[unsafe(no_mangle)]
 pub extern "C" fn exports_two_sum(a: f64, b: f64) -> f64
     ensures { result ≡ both_parts a b }
@@ -65,7 +67,7 @@ pub extern "C" fn exports_great_circle_km(lat0: f64, lon0: f64, lat1: f64, lon1:
         lat: lat1,
         lon: lon1,
     };
-    km_or_minus_one(geodesy::great_circle_km(from, to))
+    or_minus_one(geodesy::great_circle_km(from, to))
 }
 
 #[unsafe(no_mangle)]
@@ -92,8 +94,13 @@ pub extern "C" fn exports_build_row(
         × (buffers acc.new corr.new coarse.new table.new ≡ (row_call (wide_builder_of digest) row.old
         (buffers acc.old corr.old coarse.old table.old)).buffers) }
 {
-    let b = wide_builder(digest);
-    digest_or_refusal(b.row(row, acc, corr, coarse, table))
+    let mut lent = Lent {
+        acc,
+        corr,
+        coarse,
+        table,
+    };
+    digest_or_refusal(wide_builder(digest).row(row, &mut lent))
 }
 
 // The kernel's north row, or 2^32 and the refusal's number.
@@ -117,9 +124,12 @@ pub extern "C" fn exports_circle(
     ensures { result ≡ or_minus_one
         (circle_population globe_grid cells.now (globe_kernel north count) half_widths.now (col_of column)) }
 {
-    let table = Table { grid: globe() };
+    let table = Table {
+        grid: globe(),
+        cells,
+    };
     let kernel = globe_kernel(north, count);
-    people_or_minus_one(circle::population(table, cells, kernel, half_widths, Col(column)))
+    or_minus_one(circle::population(table, kernel, half_widths, Col(column)))
 }
 
 // The people in the rows north to south and the columns west through east, or -1 where they are refused.
@@ -133,7 +143,10 @@ pub extern "C" fn exports_rectangle(
 ) -> f64
     ensures { result ≡ or_minus_one (rectangle_population globe_grid cells.now (band_of north south) (through_of west east)) }
 {
-    let table = Table { grid: globe() };
+    let table = Table {
+        grid: globe(),
+        cells,
+    };
     let rows = RowBand {
         north: Row(north),
         south: Row(south),
@@ -142,7 +155,7 @@ pub extern "C" fn exports_rectangle(
         west: Col(west),
         east: Col(east),
     };
-    people_or_minus_one(table.population(cells, rows, cols))
+    or_minus_one(table.population(rows, cols))
 }
 
 // What `count` prints of a card, at the start of `out`; the answer is its length.

@@ -10,6 +10,7 @@ use radius::RadiusKm;
 use raster::CellTallies;
 
 // 1,024 columns around the globe, and two rows.
+#[tactic(auto, unfolding(crate::specs::Exports::wide_grid))]
 fn wide_grid() -> Grid
     ensures { result ≡ wide_grid }
 {
@@ -24,6 +25,7 @@ fn wide_grid() -> Grid
 }
 
 // A builder over it at factor 1 that has no row yet.
+#[tactic(auto, unfolding(crate::specs::Exports::wide_builder))]
 pub(crate) fn wide_builder(digest: u64) -> Builder
     ensures { result ≡ wide_builder_of digest }
 {
@@ -42,6 +44,7 @@ pub(crate) fn wide_builder(digest: u64) -> Builder
 }
 
 // Cells of a fifth of a degree.
+#[tactic(auto, unfolding(crate::specs::Exports::globe))]
 pub(crate) fn globe() -> Grid
     ensures { result ≡ globe_grid }
 {
@@ -56,6 +59,7 @@ pub(crate) fn globe() -> Grid
 }
 
 // Its kernel of `count` rows from `north` on. A circle does not ask for the centre row, nor for the radius.
+#[tactic(auto, unfolding(crate::specs::Exports::globe_kernel))]
 pub(crate) fn globe_kernel(north: u32, count: u32) -> Kernel
     ensures { result ≡ globe_kernel north count }
 {

@@ -1,15 +1,14 @@
 -- The first n entries of a list, from i on, and the test of all of them. Assumes nothing.
 use mathlib.Core.Path.{◌≡◌, refl}
-use mathlib.Core.Bool.{Bool, true, false, ◌&&◌}
+use mathlib.Core.Bool.{true}
 use mathlib.Core.List.{List, [], ◌∷◌}
-use Prim.Native.Nat.{ℕ, zero, suc, ◌+◌, ◌<◌, ◌≤◌}
-use native.Mathlib.Numerals.{add-one}
+use Prim.Native.Nat.{ℕ, zero, suc, ◌<◌, ◌≤◌}
 use native.Mathlib.Omega.{arith}
 use borrow.Author.Tests.{le-leb, leb-true}
 use lib.Dec.{leb}
 use lib.ListN.{length, take, drop, get_or, length-take, drop_of_length-le}
 use lib.Seq.{drop-cons, get_or-take, length-take-le}
-use Rattle.refusal.proofs.Tests.{both}
+use Rattle.std.proofs.lemmas.Bool.{and_parts}
 use Rattle.kernel.specs.Kernel.{all_within}
 
 -- one of them, and those after it
@@ -27,8 +26,8 @@ entries_end n i l h =
 
 pub each_within : (most : ℕ) (l : List ℕ) (i : ℕ) → all_within most l ≡ true → i < length l → get_or l i 0 ≤ most
 each_within most [] i e h = absurd (omega arith)
-each_within most (x ∷ l) zero e h = leb-true x most (both (leb x most) (all_within most l) e).0
-each_within most (x ∷ l) (suc i) e h = each_within most l i (both (leb x most) (all_within most l) e).1 (omega arith)
+each_within most (x ∷ l) zero e h = leb-true x most (and_parts (leb x most) (all_within most l) e).0
+each_within most (x ∷ l) (suc i) e h = each_within most l i (and_parts (leb x most) (all_within most l) e).1 (omega arith)
 
 pub all_within_lem : (most : ℕ) (l : List ℕ) → ((i : ℕ) → i < length l → get_or l i 0 ≤ most) → all_within most l ≡ true
 all_within_lem most [] h = refl

@@ -12,7 +12,7 @@ use lib.Ieee.{lt}
 use lib.Ieee.Scale.{finite}
 use Rattle.refusal.specs.Refusal.{answered, passed, radius_not_finite, radius_below_zero}
 use Rattle.refusal.proofs.Chains.{first_passed, answered_passed}
-use Rattle.refusal.proofs.Tests.{both}
+use Rattle.std.proofs.lemmas.Bool.{and_parts}
 use Rattle.float.specs.Float.{f64zero}
 use Rattle.radius.specs.Radius.{radius_refusal, valid_radius}
 use Rattle.radius.specs.declared.RadiusKm.{RadiusKm}
@@ -61,10 +61,10 @@ module _ (k : Kernel) (widths : List ℕ) where
   unfolding valid_kernel
   valid_maker e =
       let c = closing k.grid.width in
-      let p = both _ (all_within c (take k.count widths)) e in
-      let q = both _ (leb k.count (length widths)) p.0 in
-      let r = both _ (leb (k.north.0 + k.count) k.grid.height) q.0 in
-      let s = both (valid_grid k.grid) (valid_radius k.radius) r.0 in
+      let p = and_parts _ (all_within c (take k.count widths)) e in
+      let q = and_parts _ (leb k.count (length widths)) p.0 in
+      let r = and_parts _ (leb (k.north.0 + k.count) k.grid.height) q.0 in
+      let s = and_parts (valid_grid k.grid) (valid_radius k.radius) r.0 in
       let room = leb-true k.count (length widths) q.1 in
       let km = radius_passed k.radius s.1 in
       record {

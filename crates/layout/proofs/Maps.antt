@@ -9,7 +9,7 @@ use lib.ListN.{length, get_or, set}
 use lib.Ieee.{Float, nan}
 use Rattle.refusal.specs.Refusal.{passed, not_its_makers, wrong_table_length}
 use Rattle.refusal.proofs.Chains.{first_passed}
-use Rattle.refusal.proofs.Tests.{both}
+use Rattle.std.proofs.lemmas.Bool.{and_parts}
 use Rattle.float.specs.Float.{f64zero}
 use Rattle.grid.specs.declared.Grid.{Grid}
 use Rattle.grid.specs.Grid.{valid_grid}
@@ -30,7 +30,7 @@ module _ (w h : ℕ) where
   is_cell_lem r c k l = rw (le-leb r h k, le-leb c w l)
 
   pub cell_is : (r c : ℕ) → is_cell w h r c ≡ true → (r ≤ h) × (c ≤ w)
-  cell_is r c e = let b = both (leb r h) (leb c w) e in (leb-true _ _ b.0, leb-true _ _ b.1)
+  cell_is r c e = let b = and_parts (leb r h) (leb c w) e in (leb-true _ _ b.0, leb-true _ _ b.1)
 
   -- within the row layout, as the code works its place out
   pub row_cell_within : (r c n : ℕ) → is_cell w h r c ≡ true → n ≡ row_length w h → r * (w + 1) + c < n
@@ -116,6 +116,6 @@ unfolding map_refusal
 map_sized g rows blocks e =
     let p = first_passed (not (valid_grid g)) not_its_makers _ tt e in
     let q = first_passed (not (right_rows g rows && right_table g blocks)) wrong_table_length passed tt p.1 in
-    let right = both (right_rows g rows) (right_table g blocks) (not-false _ q.0) in
+    let right = and_parts (right_rows g rows) (right_table g blocks) (not-false _ q.0) in
     let s = grid_sized g (not-false (valid_grid g) p.0) in
     record { columns = s.columns; lines = s.lines; rows = right_row_length g rows right.0; blocks = right_length g blocks right.1 }

@@ -2,57 +2,24 @@
 // reference/README.md has the list.
 #![tactic(auto)]
 
-ghost use Rattle.std.specs.Prelude.{◌≡◌, ◌<◌, ◌≤◌, length};
-
-use std::io::{Read, Write};
+use std::io::Write;
 use std::rt::Files;
 use std::{fs, io};
 
 const CARDS: u8 = 67;
 
-fn card_buffer() -> [u8; 65537]
-    ensures { 65537 ≡ length result }
-{
-    [0; 65537]
-}
+// A byte more than a card may have, as `count` reads.
+const CARD: usize = 65537;
 
-fn text_buffer() -> [u8; 139333]
-    ensures { 139333 ≡ length result }
-{
-    [0; 139333]
-}
+// No card's text is longer.
+const TEXT: usize = 139333;
 
-// Reads until `bytes` is full, the file ends or a read fails, and returns how many bytes it put at the start of `bytes`.
-fn read_full(file: &mut impl Read, bytes: &mut [u8]) -> usize
-    ensures { result ≤ length bytes.new }
-{
-    let mut done = 0;
-    while done < bytes.len() {
-        match file.read(&mut bytes[done..]) {
-            Ok(0) => break,
-            Ok(more) => done += more,
-            Err(_) => break,
-        }
-    }
-    done
-}
-
-// The card at the front of `bytes`.
-fn print(out: &mut impl Write, bytes: &[u8], n: usize, text: &mut [u8]) -> io::Result<()> {
-    if n <= bytes.len() {
-        let len = report::answer(&bytes[..n], text);
-        if len <= text.len() {
-            return out.write_all(&text[..len]);
-        }
-    }
-    Ok(())
-}
-
+// A card that cannot be opened is said on standard error, and the next one is counted.
 fn one_card<R: Files + Print + Eprint>(
     rt: &R,
     i: u8,
-    bytes: &mut [u8],
-    text: &mut [u8],
+    bytes: &mut [u8; CARD],
+    text: &mut [u8; TEXT],
 ) -> io::Result<()> {
     let digits = [b'0' + i % 100 / 10, b'0' + i % 10];
     let name = str::from_utf8(&digits).unwrap();
@@ -60,22 +27,17 @@ fn one_card<R: Files + Print + Eprint>(
         Ok(file) => file,
         Err(e) => return eprintln!(rt; "{name}: {e}"),
     };
-    let n = read_full(&mut file, bytes);
+    let read = input::read_full(&mut file, bytes)?;
     drop(file);
-    print(&mut io::writer(rt), bytes, n, text)
-}
-
-fn run<R: Files + Print + Eprint>(rt: &R, bytes: &mut [u8], text: &mut [u8]) -> io::Result<()> {
-    let mut i = 0;
-    while i < CARDS {
-        one_card(rt, i, bytes, text)?;
-        i += 1;
-    }
-    Ok(())
+    let written = report::answer(&bytes[..read], text);
+    io::writer(rt).write_all(&text[..written])
 }
 
 fn main(rt: HostRuntime) -> io::Result<()> {
-    let mut bytes = card_buffer();
-    let mut text = text_buffer();
-    run(&rt, &mut bytes, &mut text)
+    let mut bytes = [0; CARD];
+    let mut text = [0; TEXT];
+    for i in 0..CARDS {
+        one_card(&rt, i, &mut bytes, &mut text)?;
+    }
+    Ok(())
 }

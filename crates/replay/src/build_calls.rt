@@ -1,135 +1,108 @@
-// Calls of `builder`: 50 to 52. List 0 has the words, lists 1 to 4 are the buffers that are lent, list 5 is a row.
-use crate::answers::*;
-use crate::text::Text;
-use crate::words::*;
-use builder::*;
+// Calls of `builder`. List 0 has the words, lists 1 to 4 are the buffers that are lent, list 5 is a row.
+use crate::answers::{grid_words, refused, tally_words};
+use crate::text::Line;
+use crate::words::{SPACE, Words};
+use builder::{Builder, Lent};
 use decimation::Decimation;
 use raster::CellTallies;
+use refusal::Refusal;
 
-pub fn start(call: &[u8], out: &mut Text) -> usize {
-    let words = list(call, 0);
-    let mut acc = [0.0; SPACE];
-    let mut corr = [0.0; SPACE];
-    let mut coarse = [0.0; SPACE];
-    let mut table = [0.0; SPACE];
-    let answer = Builder::start(
-        grid_at(words, 0),
-        half(words, 6),
-        half(words, 7),
-        load_cells(&mut acc, call, 1),
-        load_cells(&mut corr, call, 2),
-        load_cells(&mut coarse, call, 3),
-        load_cells(&mut table, call, 4),
-    );
-    let end = put_given(out, answer);
-    put_lent(out, end, call, &acc, &corr, &coarse, &table)
+#[derive(Clone, Copy)]
+pub enum BuildCall {
+    Start,
+    Row,
+    Finish,
 }
 
-pub fn row(call: &[u8], out: &mut Text) -> usize {
-    let mut row = [0; SPACE];
-    let mut acc = [0.0; SPACE];
-    let mut corr = [0.0; SPACE];
-    let mut coarse = [0.0; SPACE];
-    let mut table = [0.0; SPACE];
-    let answer = builder(list(call, 0)).row(
-        load_row(&mut row, call, 5),
-        load_cells(&mut acc, call, 1),
-        load_cells(&mut corr, call, 2),
-        load_cells(&mut coarse, call, 3),
-        load_cells(&mut table, call, 4),
-    );
-    let given = put_given(out, answer);
-    let end = put_row(out, given, call, 5, &row);
-    put_lent(out, end, call, &acc, &corr, &coarse, &table)
-}
-
-pub fn finish(call: &[u8], out: &mut Text) -> usize {
-    let mut acc = [0.0; SPACE];
-    let mut corr = [0.0; SPACE];
-    let mut coarse = [0.0; SPACE];
-    let mut table = [0.0; SPACE];
-    let acc = load_cells(&mut acc, call, 1);
-    let corr = load_cells(&mut corr, call, 2);
-    let coarse = load_cells(&mut coarse, call, 3);
-    let table = load_cells(&mut table, call, 4);
-    let answer = builder(list(call, 0)).finish(acc, corr, coarse, table);
-    put_finished(out, answer)
-}
-
-fn builder(words: &[u8]) -> Builder {
-    let source = grid_at(words, 0);
-    let grid = grid_at(words, 6);
-    let decimation = Decimation {
-        factor: half(words, 12),
-        source,
-        grid,
-    };
-    let tallies = CellTallies {
-        nodata: word(words, 16),
-        negative: word(words, 17),
-        zero: word(words, 18),
-        populated: word(words, 19),
-        unbounded: word(words, 20),
-    };
-    Builder {
-        decimation,
-        nodata: half(words, 13),
-        rows: half(words, 14),
-        digest: word(words, 15),
-        tallies,
-    }
-}
-
-fn put_given(out: &mut Text, answer: BuilderAnswer) -> usize {
-    match answer {
-        BuilderAnswer::Refused(n) => put_answer(out, 0, refused(n)),
-        BuilderAnswer::Accepted(b) => put_builder(out, b, 0.0),
-    }
-}
-
-fn put_builder(out: &mut Text, b: Builder, total: f64) -> usize {
-    let d = b.decimation;
-    let total = float::to_bits(total);
-    let factor = d.factor as u64;
-    let nodata = b.nodata as u64;
-    let rows = b.rows as u64;
-    let grid_at = put_answer(out, 0, grid_words(d.source));
-    let tallies_at = put_answer(out, grid_at, grid_words(d.grid));
-    let end = put_answer(out, tallies_at, tally_words(b.tallies, b.digest));
-    put_answer(out, end, [factor, nodata, rows, total, 0, 0])
-}
-
-// A built table has no nodata and no rows.
-fn put_finished(out: &mut Text, answer: FinishAnswer) -> usize {
-    match answer {
-        FinishAnswer::Refused(n) => put_answer(out, 0, refused(n)),
-        FinishAnswer::Finished(t) => {
-            let decimation = t.decimation;
-            let tallies = t.tallies;
-            let b = Builder {
-                decimation,
-                nodata: 0,
-                rows: 0,
-                digest: t.digest,
-                tallies,
-            };
-            put_builder(out, b, t.total)
+impl BuildCall {
+    pub fn answer(self, words: Words<'_>, out: &mut Line<'_>) {
+        let mut acc = [0.0; SPACE];
+        let mut corr = [0.0; SPACE];
+        let mut coarse = [0.0; SPACE];
+        let mut table = [0.0; SPACE];
+        let mut lent = Lent {
+            acc: words.list(1).load(&mut acc),
+            corr: words.list(2).load(&mut corr),
+            coarse: words.list(3).load(&mut coarse),
+            table: words.list(4).load(&mut table),
+        };
+        match self {
+            BuildCall::Start => start(words.list(0), &mut lent, out),
+            BuildCall::Row => row(words, &mut lent, out),
+            BuildCall::Finish => finish(words.list(0), lent.read(), out),
         }
     }
 }
 
+fn start(words: Words<'_>, lent: &mut Lent<&mut [f64]>, out: &mut Line<'_>) {
+    let answer = Builder::start(words.grid(0), words.at(6), words.at(7), lent);
+    put_builder(out, answer, 0.0);
+    put_lent(out, lent.read());
+}
+
+fn row(words: Words<'_>, lent: &mut Lent<&mut [f64]>, out: &mut Line<'_>) {
+    let mut space = [0; SPACE];
+    let row = words.list(5).load(&mut space);
+    let answer = builder(words.list(0)).row(row, lent);
+    put_builder(out, answer, 0.0);
+    out.put_all(row);
+    put_lent(out, lent.read());
+}
+
+// A built table has no nodata and no rows.
+fn finish(words: Words<'_>, lent: Lent<&[f64]>, out: &mut Line<'_>) {
+    let answer = builder(words).finish(lent);
+    let total = answer.map_or(0.0, |t| t.total);
+    let built = answer.map(|t| Builder {
+        decimation: t.decimation,
+        nodata: 0,
+        rows: 0,
+        digest: t.digest,
+        tallies: t.tallies,
+    });
+    put_builder(out, built, total);
+}
+
+fn builder(words: Words<'_>) -> Builder {
+    let decimation = Decimation {
+        factor: words.at(12),
+        source: words.grid(0),
+        grid: words.grid(6),
+    };
+    let tallies = CellTallies {
+        nodata: words.at(16),
+        negative: words.at(17),
+        zero: words.at(18),
+        populated: words.at(19),
+        unbounded: words.at(20),
+    };
+    Builder {
+        decimation,
+        nodata: words.at(13),
+        rows: words.at(14),
+        digest: words.at(15),
+        tallies,
+    }
+}
+
+fn put_builder(out: &mut Line<'_>, answer: Result<Builder, Refusal>, total: f64) {
+    match answer {
+        Ok(b) => {
+            let d = b.decimation;
+            out.put_all(&grid_words(d.source));
+            out.put_all(&grid_words(d.grid));
+            out.put_all(&tally_words(b.tallies, b.digest));
+            out.put_all(&[d.factor, b.nodata, b.rows]);
+            out.put_all(&[total, 0.0, 0.0]);
+        }
+        Err(cause) => out.put_all(&refused(cause)),
+    }
+}
+
 // The buffers as they are left.
-fn put_lent(
-    out: &mut Text,
-    at: usize,
-    call: &[u8],
-    acc: &Cells,
-    corr: &Cells,
-    coarse: &Cells,
-    table: &Cells,
-) -> usize {
-    let corr_at = put_cells(out, at, call, 1, acc);
-    let coarse_at = put_cells(out, corr_at, call, 2, corr);
-    let table_at = put_cells(out, coarse_at, call, 3, coarse);
-    put_cells(out, table_at, call, 4, table)
+fn put_lent(out: &mut Line<'_>, lent: Lent<&[f64]>) {
+    out.put_all(lent.acc);
+    out.put_all(lent.corr);
+    out.put_all(lent.coarse);
+    out.put_all(lent.table);
 }

@@ -1,31 +1,29 @@
-// Calls of `layout`, 63 and 64: list 1 is read and list 2 written. Both follow the answer as they are left.
-use crate::answers::*;
-use crate::text::Text;
-use crate::words::*;
-use grid::Grid;
-use layout::*;
+// Calls of `layout`: list 1 is read and list 2 written. Both follow the answer as they are left.
+use crate::answers::one;
+use crate::calls::put;
+use crate::text::Line;
+use crate::words::{SPACE, Words};
+use layout::{to_blocks, to_rows};
 
-pub fn map(n: u64, call: &[u8], out: &mut Text) -> usize {
-    let grid = grid_at(list(call, 0), 0);
-    let mut read = [0.0; SPACE];
-    let mut written = [0.0; SPACE];
-    let from = load_cells(&mut read, call, 1);
-    let answer = mapped(n, grid, from, load_cells(&mut written, call, 2));
-    let read_at = put_answer(out, 0, answer);
-    let written_at = put_cells(out, read_at, call, 1, &read);
-    put_cells(out, written_at, call, 2, &written)
+#[derive(Clone, Copy)]
+pub enum MapCall {
+    ToBlocks,
+    ToRows,
 }
 
-fn mapped(n: u64, grid: Grid, read: &[f64], written: &mut [f64]) -> Answer {
-    match n {
-        0x63 => done(to_blocks(grid, read, written)),
-        _ => done(to_rows(grid, read, written)),
-    }
-}
-
-fn done(answer: MapAnswer) -> Answer {
-    match answer {
-        MapAnswer::Done => [0, 0, 0, 0, 0, 0],
-        MapAnswer::Refused(n) => refused(n),
+impl MapCall {
+    pub fn answer(self, words: Words<'_>, out: &mut Line<'_>) {
+        let grid = words.list(0).grid(0);
+        let mut read = [0.0; SPACE];
+        let mut written = [0.0; SPACE];
+        let read = words.list(1).load(&mut read);
+        let written = words.list(2).load(&mut written);
+        let answer = match self {
+            MapCall::ToBlocks => to_blocks(grid, read, written),
+            MapCall::ToRows => to_rows(grid, read, written),
+        };
+        put(out, answer.map(|()| one(0)));
+        out.put_all(read);
+        out.put_all(written);
     }
 }

@@ -19,8 +19,10 @@ mod words;
 
 use std::io;
 use std::io::{Read, Write};
-use text::Text;
-use words::*;
+use text::{Line, Text};
+
+// A bound on the calls, so that the program ends on an input without end.
+const CALLS: u64 = 0x100_0000_0000;
 
 fn main(rt: HostRuntime) -> io::Result<()> {
     let mut input = [0; text::SIZE];
@@ -34,13 +36,10 @@ fn run(
     input: &mut Text,
     out: &mut Text,
 ) -> io::Result<()> {
-    // A bound on the calls, so that the program ends on an input without end.
-    let mut budget: u64 = 0x100_0000_0000;
-    while 0 < budget {
+    for _ in 0..CALLS {
         if !answer_next(from, to, input, out)? {
             break;
         }
-        budget -= 1;
     }
     Ok(())
 }
@@ -52,15 +51,16 @@ fn answer_next(
     input: &mut Text,
     out: &mut Text,
 ) -> io::Result<bool> {
-    if !text::read(from, input, 1) {
+    let Some(head) = text::read(from, input, 1) else {
         return Ok(false);
-    }
-    let head = word(input, 0);
-    let n = (head % 0x1_0000_0000) as usize;
-    if !text::read(from, input, n) {
+    };
+    let number = head.at::<u64>(0) / 0x1_0000_0000;
+    let n: u32 = head.at(0);
+    let Some(words) = text::read(from, input, n) else {
         return Ok(false);
-    }
-    let end = calls::answer(head / 0x1_0000_0000, front(input, n), out);
-    text::write_line(to, out, end)?;
+    };
+    let mut line = Line::new(out);
+    calls::answer(number, words, &mut line);
+    line.write_to(to)?;
     Ok(true)
 }

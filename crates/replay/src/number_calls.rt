@@ -1,65 +1,79 @@
-// Calls of `float`, `sqrt`, `digest`, `geodesy` and `grid` that give one number or two, and are never refused.
-use crate::answers::Answer;
-use crate::words::*;
+// Calls of `float`, `remainder`, `sqrt` and `digest` that give one number or two, and are never refused.
+use crate::answers::{Answer, one};
+use crate::calls::NoSuchCall;
+use crate::words::{Word, Words};
 use float::*;
-use geodesy::*;
-use radius::RadiusKm;
 use remainder::*;
-use stand_ins::*;
 
-pub fn word_of(n: u64, call: &[u8]) -> u64 {
-    let x = number(call, 0);
-    match n {
-        0x06 => is_finite(x) as u64,
-        0x0c => to_u32(x) as u64,
-        0x10 => digest::wrapping_mul(word(call, 0), word(call, 1)),
-        0x11 => digest::mix(word(call, 0), half(call, 1)),
-        0x3c => grid_at(call, 0).same(grid_at(call, 6)) as u64,
-        _ => to_bits(float_of(n, call, x)),
+#[derive(Clone, Copy)]
+pub enum NumberCall {
+    Sqrt,
+    TwoSum,
+    Rem,
+    RemEuclid,
+    Widen,
+    IsFinite,
+    Abs,
+    Min,
+    Max,
+    Clamp,
+    IndexFromOffset,
+    ToU32,
+    WrappingMul,
+    Mix,
+}
+
+impl TryFrom<u64> for NumberCall {
+    type Error = NoSuchCall;
+
+    fn try_from(n: u64) -> Result<NumberCall, NoSuchCall> {
+        Ok(match n {
+            0x01 => NumberCall::Sqrt,
+            0x02 => NumberCall::TwoSum,
+            0x03 => NumberCall::Rem,
+            0x04 => NumberCall::RemEuclid,
+            0x05 => NumberCall::Widen,
+            0x06 => NumberCall::IsFinite,
+            0x07 => NumberCall::Abs,
+            0x08 => NumberCall::Min,
+            0x09 => NumberCall::Max,
+            0x0a => NumberCall::Clamp,
+            0x0b => NumberCall::IndexFromOffset,
+            0x0c => NumberCall::ToU32,
+            0x10 => NumberCall::WrappingMul,
+            0x11 => NumberCall::Mix,
+            _ => return Err(NoSuchCall),
+        })
     }
 }
 
-fn float_of(n: u64, call: &[u8], x: f64) -> f64 {
-    let y = number(call, 1);
-    match n {
-        0x05 => widen(half(call, 0)),
-        0x0a => clamp(x, y, number(call, 2)),
-        0x2c => RadiusKm::from_u32(half(call, 0)).km(),
-        0x2e => zone_area_km2(LatBand { north: x, south: y }, number(call, 2)),
-        _ => of_floats(n, x, y),
+impl NumberCall {
+    pub fn answer(self, words: Words<'_>) -> Answer {
+        let x: f64 = words.at(0);
+        let y: f64 = words.at(1);
+        match self {
+            NumberCall::Sqrt => one(sqrt::sqrt(x)),
+            NumberCall::TwoSum => both(two_sum(x, y)),
+            NumberCall::Rem => one(rem(x, y)),
+            NumberCall::RemEuclid => one(rem_euclid(x, y)),
+            NumberCall::Widen => one(widen(words.at(0))),
+            NumberCall::IsFinite => one(u64::from(is_finite(x))),
+            NumberCall::Abs => one(abs(x)),
+            NumberCall::Min => one(min(x, y)),
+            NumberCall::Max => one(max(x, y)),
+            NumberCall::Clamp => one(clamp(x, y, words.at(2))),
+            NumberCall::IndexFromOffset => place(index_from_offset(x, words.at(1))),
+            NumberCall::ToU32 => one(to_u32(x)),
+            NumberCall::WrappingMul => one(digest::wrapping_mul(words.at(0), words.at(1))),
+            NumberCall::Mix => one(digest::mix(words.at(0), words.at(1))),
+        }
     }
 }
 
-// A call of no known number gives no number.
-fn of_floats(n: u64, x: f64, y: f64) -> f64 {
-    match n {
-        0x01 => sqrt::sqrt(x),
-        0x03 => rem(x, y),
-        0x04 => rem_euclid(x, y),
-        0x07 => abs(x),
-        0x08 => min(x, y),
-        0x09 => max(x, y),
-        0x20 => sin(x),
-        0x21 => cos(x),
-        0x22 => atan2(x, y),
-        0x23 => acos(x),
-        0x24 => to_radians(x),
-        0x25 => to_degrees(x),
-        0x26 => wrap_lon(x),
-        0x29 => arc_km(x),
-        0x2a => central_angle_rad(x),
-        _ => 0.0 / 0.0,
-    }
+fn both(s: TwoSum) -> Answer {
+    [s.sum.word(), s.dropped.word(), 0, 0, 0, 0]
 }
 
-pub fn pair(n: u64, call: &[u8]) -> Answer {
-    let x = number(call, 0);
-    if n == 0x02 {
-        let s = two_sum(x, number(call, 1));
-        return [to_bits(s.sum), to_bits(s.dropped), 0, 0, 0, 0];
-    }
-    match index_from_offset(x, half(call, 1)) {
-        Index::At(i) => [1, i as u64, 0, 0, 0, 0],
-        Index::Outside => [0, 0, 0, 0, 0, 0],
-    }
+fn place(index: Option<u32>) -> Answer {
+    index.map_or([0; 6], |i| [1, i.word(), 0, 0, 0, 0])
 }

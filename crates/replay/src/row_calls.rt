@@ -1,33 +1,38 @@
-// Calls on a row of cells or half-widths, which follows the answer as it is left: 12, 40 and 70.
-use crate::answers::*;
-use crate::text::Text;
-use crate::words::*;
-use kernel::*;
+// Calls on a row of cells or half-widths, which follows the answer as it is left.
+use crate::answers::{Answer, given, one, tally_words};
+use crate::calls::put;
+use crate::text::Line;
+use crate::words::{SPACE, Words};
+use grid::Row;
+use kernel::Kernel;
 use radius::RadiusKm;
+use refusal::Refusal;
 
-pub fn answer(n: u64, call: &[u8], out: &mut Text) -> usize {
-    let mut space = [0; SPACE];
-    let answer = of_row(n, list(call, 0), load_row(&mut space, call, 1));
-    let end = put_answer(out, 0, answer);
-    put_row(out, end, call, 1, &space)
+#[derive(Clone, Copy)]
+pub enum RowCall {
+    Digest,
+    Sanitise,
+    Kernel,
 }
 
-fn of_row(n: u64, words: &[u8], row: &mut [u32]) -> Answer {
-    match n {
-        0x12 => [digest::digest_row(word(words, 0), row), 0, 0, 0, 0, 0],
-        0x40 => {
-            let t = raster::sanitise_row(row, half(words, 0));
-            tally_words(t, 0)
-        }
-        _ => kernel(words, row),
+impl RowCall {
+    pub fn answer(self, words: Words<'_>, out: &mut Line<'_>) {
+        let mut space = [0; SPACE];
+        let row = words.list(1).load(&mut space);
+        put(out, self.of(words.list(0), row));
+        out.put_all(row);
     }
-}
 
-fn kernel(words: &[u8], half_widths: &mut [u32]) -> Answer {
-    let centre = grid::Row(half(words, 6));
-    let radius = RadiusKm(number(words, 7));
-    match Kernel::new(grid_at(words, 0), centre, radius, half_widths) {
-        KernelAnswer::Made(k) => indices(k.north.0, k.count),
-        KernelAnswer::Refused(n) => refused(n),
+    fn of(self, words: Words<'_>, row: &mut [u32]) -> Result<Answer, Refusal> {
+        Ok(match self {
+            RowCall::Digest => one(digest::digest_row(words.at(0), row)),
+            RowCall::Sanitise => tally_words(raster::sanitise_row(row, words.at(0)), 0),
+            RowCall::Kernel => {
+                let centre = Row(words.at(6));
+                let radius = RadiusKm(words.at(7));
+                let k = Kernel::new(words.grid(0), centre, radius, row)?;
+                given(k.north.0, k.count)
+            }
+        })
     }
 }

@@ -1,112 +1,109 @@
-// Calls of `table`, 60 to 62, and of `circle`, 80, which goes the way of 60.
-use crate::answers::*;
-use crate::text::{Text, put};
-use crate::words::*;
-use grid::Col;
+// Calls of `table`, and of `circle`, which goes the way of a rectangle.
+use crate::answers::{Answer, given};
+use crate::calls::put;
+use crate::text::Line;
+use crate::words::{SPACE, Words};
+use grid::{Col, Row};
 use kernel::Kernel;
 use radius::RadiusKm;
-use table::*;
+use refusal::Refusal;
+use table::{ColSpan, RowBand, Table, Window};
 
-pub fn extent(n: u64, call: &[u8]) -> Answer {
-    let table = table_at(call);
-    if n == 0x61 {
-        return extent_of(table.whole());
+#[derive(Clone, Copy)]
+pub enum ExtentCall {
+    Whole,
+    Covering,
+}
+
+impl ExtentCall {
+    pub fn answer(self, words: Words<'_>) -> Result<Answer, Refusal> {
+        let table = Table {
+            grid: words.grid(0),
+            cells: &[],
+        };
+        let (rows, cols) = match self {
+            ExtentCall::Whole => table.whole()?,
+            ExtentCall::Covering => table.covering(window(words.from(6)))?,
+        };
+        let north = rows.north.0 as u64;
+        let south = rows.south.0 as u64;
+        Ok(match cols {
+            ColSpan::Through { west, east } => [0, north, south, 0, west.0 as u64, east.0 as u64],
+            ColSpan::FullTurn => [0, north, south, 1, 0, 0],
+        })
     }
-    let window = Window {
-        north: number(call, 6),
-        south: number(call, 7),
-        west: number(call, 8),
-        east: number(call, 9),
-    };
-    extent_of(table.covering(window))
 }
 
-fn table_at(words: &[u8]) -> Table {
-    let grid = grid_at(words, 0);
-    Table { grid }
+fn window(words: Words<'_>) -> Window {
+    Window {
+        north: words.at(0),
+        south: words.at(1),
+        west: words.at(2),
+        east: words.at(3),
+    }
 }
 
-fn extent_of(answer: ExtentAnswer) -> Answer {
-    match answer {
-        ExtentAnswer::Refused(n) => refused(n),
-        ExtentAnswer::Extent(rows, cols) => {
-            let north = rows.north.0 as u64;
-            let south = rows.south.0 as u64;
-            match cols {
-                ColSpan::Through { west, east } => {
-                    [0, north, south, 0, west.0 as u64, east.0 as u64]
+#[derive(Clone, Copy)]
+pub enum PeopleCall {
+    Rectangles,
+    Circles,
+}
+
+impl PeopleCall {
+    // The people of each question of a list, of five words: of rectangles of one table, or of circles.
+    pub fn answer(self, words: Words<'_>, out: &mut Line<'_>) {
+        let mut cells = [0.0; SPACE];
+        let mut half_widths = [0; SPACE];
+        let cells = words.list(1).load(&mut cells);
+        let half_widths = words.list(2).load(&mut half_widths);
+        let table = Table {
+            grid: words.list(0).grid(0),
+            cells,
+        };
+        self.ask_all(table, words, half_widths, out);
+    }
+
+    fn ask_all(self, table: Table<'_>, words: Words<'_>, half_widths: &[u32], out: &mut Line<'_>) {
+        let kernel = kernel(words.list(0));
+        let questions = words.list(3);
+        let count = questions.len() / 5;
+        out.put(count as u64);
+        for i in 0..count {
+            let question = questions.from(i * 5);
+            let people = match self {
+                PeopleCall::Rectangles => table.population(rows(question), columns(question)),
+                PeopleCall::Circles => {
+                    circle::population(table, kernel, half_widths, Col(question.at(0)))
                 }
-                ColSpan::FullTurn => [0, north, south, 1, 0, 0],
-            }
+            };
+            put(out, people.map(|people| given(people, 0.0)));
         }
     }
 }
 
-// The people of each question of a list, of five words: of rectangles of one table, or of circles.
-pub fn populations(n: u64, call: &[u8], out: &mut Text) -> usize {
-    let mut cells = [0.0; SPACE];
-    let mut half_widths = [0; SPACE];
-    let cells = load_cells(&mut cells, call, 1);
-    let half_widths = load_row(&mut half_widths, call, 2);
-    ask_all(n, call, cells, half_widths, out)
-}
-
-fn ask_all(n: u64, call: &[u8], cells: &[f64], half_widths: &[u32], out: &mut Text) -> usize {
-    let words = list(call, 0);
-    let questions = list(call, 3);
-    let mut left = count(questions) / 5;
-    let mut end = put(out, 0, left as u64);
-    let mut at = 0;
-    while 0 < left {
-        let answer = ask(n, words, from(questions, at), cells, half_widths);
-        end = put_answer(out, end, answer);
-        at = std::num::wrapping_add_usize(at, 5);
-        left -= 1;
-    }
-    end
-}
-
-fn ask(n: u64, words: &[u8], question: &[u8], cells: &[f64], half_widths: &[u32]) -> Answer {
-    let answer = match n {
-        0x60 => rectangle(words, question, cells),
-        _ => circle(words, question, cells, half_widths),
-    };
-    match answer {
-        PopulationAnswer::People(x) => floats(x, 0.0),
-        PopulationAnswer::Refused(n) => refused(n),
+fn rows(question: Words<'_>) -> RowBand {
+    RowBand {
+        north: Row(question.at(0)),
+        south: Row(question.at(1)),
     }
 }
 
-fn rectangle(words: &[u8], question: &[u8], cells: &[f64]) -> PopulationAnswer {
-    let rows = RowBand {
-        north: grid::Row(half(question, 0)),
-        south: grid::Row(half(question, 1)),
-    };
-    table_at(words).population(cells, rows, columns(question))
-}
-
-fn columns(question: &[u8]) -> ColSpan {
-    if word(question, 2) == 0 {
-        let west = Col(half(question, 3));
-        let east = Col(half(question, 4));
+fn columns(question: Words<'_>) -> ColSpan {
+    if question.at::<u64>(2) == 0 {
+        let west = Col(question.at(3));
+        let east = Col(question.at(4));
         return ColSpan::Through { west, east };
     }
     ColSpan::FullTurn
 }
 
-// The words are the table's grid and a kernel; a question's first word is a column.
-fn circle(words: &[u8], question: &[u8], cells: &[f64], widths: &[u32]) -> PopulationAnswer {
-    let centre = Col(half(question, 0));
-    circle::population(table_at(words), cells, kernel(words), widths, centre)
-}
-
-fn kernel(words: &[u8]) -> Kernel {
-    let grid = grid_at(words, 6);
+// The words are the table's grid and a kernel.
+fn kernel(words: Words<'_>) -> Kernel {
     Kernel {
-        grid,
-        centre: grid::Row(half(words, 12)),
-        radius: RadiusKm(number(words, 13)),
-        north: grid::Row(half(words, 14)),
-        count: half(words, 15),
+        grid: words.grid(6),
+        centre: Row(words.at(12)),
+        radius: RadiusKm(words.at(13)),
+        north: Row(words.at(14)),
+        count: words.at(15),
     }
 }

@@ -1,6 +1,5 @@
 // The text: words of 16 hexadecimal digits, each with one byte behind it that separates it from the next.
-ghost use Rattle.std.specs.Prelude.{◌≤◌, length};
-
+use crate::words::{Word, Words};
 use std::io;
 use std::io::{Read, Write};
 
@@ -12,42 +11,18 @@ pub const SIZE: usize = 557056;
 
 pub type Text = [u8; SIZE];
 
-// The next n words of the input, in the front of the text; false where they are not there or are too many.
-pub fn read(input: &mut impl Read, text: &mut [u8], n: usize) -> bool {
-    let size = n % 0x1_0000_0000 * UNIT;
-    if size <= text.len() {
-        return read_full(input, &mut text[0..size]) == size;
-    }
-    false
-}
-
-// Reads until `bytes` is full, the input ends or a read fails, and returns how many bytes it put at the start of `bytes`.
-fn read_full(input: &mut impl Read, bytes: &mut [u8]) -> usize
-    ensures { result ≤ length bytes.new }
-{
-    let mut done = 0;
-    while done < bytes.len() {
-        match input.read(&mut bytes[done..]) {
-            Ok(0) => break,
-            Ok(more) => done += more,
-            Err(_) => break,
-        }
-    }
-    done
+// The next n words of the input, in the front of the text; none where they are not there or are too many.
+pub fn read<'a>(input: &mut impl Read, text: &'a mut [u8], n: u32) -> Option<Words<'a>> {
+    let place = text.get_mut(..n as usize * UNIT)?;
+    input.read_exact(place).ok()?;
+    Some(Words::of_text(place))
 }
 
 // The word at the front of the text.
 pub fn value(text: &[u8]) -> u64 {
-    let mut word = 0;
-    let mut i = 0;
-    while i < text.len() {
-        if i == 16 {
-            break;
-        }
-        word = (word % 0x1000_0000_0000_0000 * 16) | digit(text[i]);
-        i += 1;
-    }
-    word
+    text.iter().take(16).fold(0, |word, byte| {
+        (word % 0x1000_0000_0000_0000 * 16) | digit(*byte)
+    })
 }
 
 fn digit(byte: u8) -> u64 {
@@ -55,35 +30,53 @@ fn digit(byte: u8) -> u64 {
     b % 16 + b / 64 * 9
 }
 
-// The place behind the word that was put at `at`; past the end nothing is put.
-pub fn put(out: &mut Text, at: usize, word: u64) -> usize {
-    if SIZE - UNIT < at {
-        return at;
-    }
-    let mut rest = word;
-    let mut i = at + 16;
-    out[i] = b' ';
-    while at < i {
-        i -= 1;
-        out[i] = glyph(rest);
-        rest /= 16;
-    }
-    at + UNIT
-}
-
 fn glyph(n: u64) -> u8 {
     b"0123456789abcdef"[(n % 16) as usize]
 }
 
-// Writes the words up to `end`, with a newline behind the last.
-pub fn write_line(to: &mut impl Write, text: &mut Text, end: usize) -> io::Result<()> {
-    if end == 0 {
-        return Ok(());
+// The words of an answer, one behind another from the front of the text on; what does not fit is left out.
+#[derive(Drop)]
+pub struct Line<'a> {
+    text: &'a mut [u8],
+    end: usize,
+}
+
+impl<'a> Line<'a> {
+    pub fn new(text: &'a mut [u8]) -> Line<'a> {
+        Line { text, end: 0 }
     }
-    if end <= SIZE {
-        text[end - 1] = b'\n';
-        let line = &text[..];
-        return to.write_all(&line[0..end]);
+
+    pub fn put<T: Word>(&mut self, x: T) {
+        let end = self.end.saturating_add(UNIT);
+        let Some(place) = self.text.get_mut(self.end..end) else {
+            return;
+        };
+        self.end = end;
+        if let Some((separator, digits)) = place.split_last_mut() {
+            *separator = b' ';
+            let mut rest = x.word();
+            for digit in digits.iter_mut().rev() {
+                *digit = glyph(rest);
+                rest /= 16;
+            }
+        }
     }
-    Ok(())
+
+    pub fn put_all<T: Word>(&mut self, list: &[T]) {
+        for x in list {
+            self.put(*x);
+        }
+    }
+
+    // The words, with a newline behind the last.
+    pub fn write_to(self, to: &mut impl Write) -> io::Result<()> {
+        let end = self.end;
+        let Some(line) = self.text.get_mut(..end) else {
+            return Ok(());
+        };
+        if let Some(separator) = line.last_mut() {
+            *separator = b'\n';
+        }
+        to.write_all(line)
+    }
 }

@@ -7,95 +7,102 @@ use grid::Grid;
 // The longest list that is lent; what is past it is left out.
 pub const SPACE: usize = 8192;
 
-pub type Row = [u32; SPACE];
+// What a word may stand for.
+pub trait Word: Copy {
+    fn of(word: u64) -> Self;
 
-pub type Cells = [f64; SPACE];
-
-pub fn word(call: &[u8], at: usize) -> u64 {
-    value(from(call, at))
+    fn word(self) -> u64;
 }
 
-pub fn half(call: &[u8], at: usize) -> u32 {
-    (word(call, at) % 0x1_0000_0000) as u32
-}
+impl Word for u64 {
+    fn of(word: u64) -> u64 {
+        word
+    }
 
-pub fn number(call: &[u8], at: usize) -> f64 {
-    float::from_bits(word(call, at))
-}
-
-pub fn point(call: &[u8], at: usize) -> LatLon {
-    let rest = from(call, at);
-    LatLon {
-        lat: number(rest, 0),
-        lon: number(rest, 1),
+    fn word(self) -> u64 {
+        self
     }
 }
 
-pub fn grid_at(call: &[u8], at: usize) -> Grid {
-    let rest = from(call, at);
-    Grid {
-        width: half(rest, 0),
-        height: half(rest, 1),
-        lat: number(rest, 2),
-        lon: number(rest, 3),
-        lon_step: number(rest, 4),
-        lat_step: number(rest, 5),
+// A cell of a raster, a half-width, an index.
+impl Word for u32 {
+    fn of(word: u64) -> u32 {
+        (word % 0x1_0000_0000) as u32
+    }
+
+    fn word(self) -> u64 {
+        self as u64
     }
 }
 
-pub fn from(call: &[u8], at: usize) -> &[u8] {
-    let place = at % 0x1_0000_0000 * UNIT;
-    if place < call.len() {
-        return &call[place..];
+impl Word for f64 {
+    fn of(word: u64) -> f64 {
+        float::from_bits(word)
     }
-    &call[0..0]
-}
 
-pub fn front(call: &[u8], n: usize) -> &[u8] {
-    let place = n % 0x1_0000_0000 * UNIT;
-    if place < call.len() {
-        return &call[0..place];
+    fn word(self) -> u64 {
+        float::to_bits(self)
     }
-    call
 }
 
-// List k of a call that has several: word k is its place, and the next word the place behind it.
-pub fn list(call: &[u8], k: usize) -> &[u8] {
-    let places = from(call, k);
-    let end = word(places, 1) as usize;
-    from(front(call, end), word(places, 0) as usize)
-}
+#[derive(Clone, Copy)]
+pub struct Words<'a>(&'a [u8]);
 
-pub fn count(list: &[u8]) -> usize {
-    list.len() / UNIT
-}
+impl<'a> Words<'a> {
+    pub fn of_text(text: &'a [u8]) -> Words<'a> {
+        Words(text)
+    }
 
-// List k as floats, in the front of the space that is lent.
-pub fn load_cells<'a>(space: &'a mut [f64], call: &[u8], k: usize) -> &'a mut [f64] {
-    let list = list(call, k);
-    let n = count(list);
-    let mut i = 0;
-    while i < space.len() {
-        if n <= i {
-            break;
+    pub fn len(self) -> usize {
+        self.0.len() / UNIT
+    }
+
+    pub fn at<T: Word>(self, at: usize) -> T {
+        T::of(value(self.from(at).0))
+    }
+
+    pub fn point(self, at: usize) -> LatLon {
+        let rest = self.from(at);
+        LatLon {
+            lat: rest.at(0),
+            lon: rest.at(1),
         }
-        space[i] = number(list, i);
-        i += 1;
     }
-    &mut space[0..i]
-}
 
-// List k as cells of a raster or half-widths likewise.
-pub fn load_row<'a>(space: &'a mut [u32], call: &[u8], k: usize) -> &'a mut [u32] {
-    let list = list(call, k);
-    let n = count(list);
-    let mut i = 0;
-    while i < space.len() {
-        if n <= i {
-            break;
+    pub fn grid(self, at: usize) -> Grid {
+        let rest = self.from(at);
+        Grid {
+            width: rest.at(0),
+            height: rest.at(1),
+            lat: rest.at(2),
+            lon: rest.at(3),
+            lon_step: rest.at(4),
+            lat_step: rest.at(5),
         }
-        space[i] = half(list, i);
-        i += 1;
     }
-    &mut space[0..i]
+
+    pub fn from(self, at: usize) -> Words<'a> {
+        Words(self.0.get(at % 0x1_0000_0000 * UNIT..).unwrap_or(&[]))
+    }
+
+    fn front(self, n: usize) -> Words<'a> {
+        Words(self.0.get(..n % 0x1_0000_0000 * UNIT).unwrap_or(self.0))
+    }
+
+    // List k of a call that has several: word k is its place, and the next word the place behind it.
+    pub fn list(self, k: usize) -> Words<'a> {
+        let places = self.from(k);
+        let start: u64 = places.at(0);
+        let end: u64 = places.at(1);
+        self.front(end as usize).from(start as usize)
+    }
+
+    // The words as elements, in the front of the space that is lent.
+    pub fn load<'b, T: Word>(self, space: &'b mut [T]) -> &'b mut [T] {
+        let n = self.len().min(space.len());
+        for (i, x) in space.iter_mut().take(n).enumerate() {
+            *x = self.at(i);
+        }
+        &mut space[..n]
+    }
 }

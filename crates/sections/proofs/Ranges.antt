@@ -6,7 +6,7 @@ use native.Mathlib.Nat.{le_refl}
 use native.Mathlib.Omega.{arith}
 use borrow.Author.Tests.{leb-true, leb-false, lt-leb}
 use lib.Dec.{leb}
-use Rattle.refusal.proofs.Tests.{both, neither}
+use Rattle.std.proofs.lemmas.Bool.{and_parts, or_parts}
 use Rattle.sections.specs.declared.ByteRange.{ByteRange}
 use Rattle.sections.specs.Sections.{has_no_bytes, disjoint, header_bytes, sections_apart, In, Apart}
 
@@ -24,9 +24,9 @@ module _ (a b : ByteRange) where
 
   pub overlap_shared : disjoint a b ≡ false → (i : ℕ) × In a i × In b i
   overlap_shared e =
-      let p = neither _ (leb b.end a.start) e in
-      let q = neither _ (leb a.end b.start) p.0 in
-      let r = neither (has_no_bytes a) (has_no_bytes b) q.0 in
+      let p = or_parts _ (leb b.end a.start) e in
+      let q = or_parts _ (leb a.end b.start) p.0 in
+      let r = or_parts (has_no_bytes a) (has_no_bytes b) q.0 in
       later (leb a.start b.start) refl (leb-false _ _ r.0) (leb-false _ _ r.1) (leb-false _ _ q.1) (leb-false _ _ p.1)
     where
       -- the later start
@@ -39,6 +39,6 @@ module _ (a b : ByteRange) where
 pub none_shared : (rows circles : ByteRange) → sections_apart rows circles ≡ true
     → Apart header_bytes rows × Apart header_bytes circles × Apart rows circles
 none_shared rows circles e =
-    let p = both _ (disjoint rows circles) e in
-    let q = both (disjoint header_bytes rows) (disjoint header_bytes circles) p.0 in
+    let p = and_parts _ (disjoint rows circles) e in
+    let q = and_parts (disjoint header_bytes rows) (disjoint header_bytes circles) p.0 in
     (disjoint_apart _ _ q.0, disjoint_apart _ _ q.1, disjoint_apart _ _ p.1)

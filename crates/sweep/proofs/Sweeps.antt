@@ -1,94 +1,20 @@
--- The sweep of a row: one turn of it, and the lengths that it keeps. Assumes nothing.
-use mathlib.Core.Path.{◌≡◌, refl, ap, ◌∙◌}
-use mathlib.Core.List.{List, [], ◌∷◌, ◌++◌, append-nil}
-use Prim.Native.Nat.{ℕ, suc, ◌+◌, ◌-◌, ◌<◌, ◌≤◌, min}
-use native.Mathlib.Nat.{le_refl}
-use native.Mathlib.Numerals.{add-one}
+-- The sweep of a row: what is done and what is left, where it ends, and the lengths that it keeps. Assumes nothing.
+use mathlib.Core.Path.{◌≡◌, refl, ap}
+use mathlib.Core.List.{List, [], ◌∷◌, ◌++◌}
+use Prim.Native.Nat.{ℕ, suc, ◌+◌, ◌-◌, ◌≤◌, min}
 use native.Mathlib.Omega.{arith}
-use lib.ListN.{length, take, drop, set, get_or, length-append, length-drop, length-map, take-append-drop, drop_of_length-le}
-use lib.Seq.{drop-cons, take-suc-set, drop-set-lt, append_snoc, take_all, drop_at, length-take-le}
-use lib.Ieee.{Float, nan}
-use Rattle.float.specs.Float.{f64zero}
-use Rattle.digest.specs.Digest.{mixed, digest_of}
-use Rattle.raster.specs.Raster.{cell_value, kind_of, sanitised, sanitised_row, no_tallies, tallied, row_tallies, cells_of}
-use Rattle.raster.specs.declared.CellTallies.{CellTallies}
-use Rattle.raster.proofs.Tallies.{tallies_from, one_more, tallies_held}
-use Rattle.raster.proofs.Turn.{map_from, map_turn, tallies_turn}
+use lib.ListN.{length, take, drop, length-append, length-drop, length-map, take-append-drop}
+use lib.Ieee.{Float}
+use Rattle.raster.specs.Raster.{cell_value, sanitised_row}
 use Rattle.sweep.specs.declared.Carry.{Carry}
-use Rattle.sweep.specs.declared.Column.{Column}
 use Rattle.sweep.specs.Sweep.{taken_in, swept_acc, swept_corr, acc_after, corr_after}
-use Rattle.sweep.specs.private.Cell.{swept}
-
--- ---- a turn of the sweep
 
 -- the columns below j as they are, and the rest as the sweep of the cells from i on, sanitised, leaves it
-abbrev from_acc : ℕ → Carry → List ℕ → List Float → List Float → ℕ → ℕ → List Float
+abbrev pub from_acc : ℕ → Carry → List ℕ → List Float → List Float → ℕ → ℕ → List Float
 from_acc nodata s row acc corr i j = take j acc ++ swept_acc s.prefix.sum s.prefix.dropped (sanitised_row nodata (drop i row)) (drop j acc) (drop j corr)
 
-abbrev from_corr : ℕ → Carry → List ℕ → List Float → List Float → ℕ → ℕ → List Float
+abbrev pub from_corr : ℕ → Carry → List ℕ → List Float → List Float → ℕ → ℕ → List Float
 from_corr nodata s row acc corr i j = take j corr ++ swept_corr s.prefix.sum s.prefix.dropped (sanitised_row nodata (drop i row)) (drop j acc) (drop j corr)
-
--- what is done, then what becomes of the rest, is what becomes of the whole
-pub record Midway (nodata digest : ℕ) (row₀ : List ℕ) (acc₀ corr₀ : List Float) (acc corr : List Float) (row : List ℕ) (s : Carry) (i : ℕ) : Type 0 where
-  cells : cells_of s.so_far.tallies ≡ i
-  pub sums : from_acc nodata s row acc corr i (i + 1) ≡ acc_after (sanitised_row nodata row₀) acc₀ corr₀
-  pub corrections : from_corr nodata s row acc corr i (i + 1) ≡ corr_after (sanitised_row nodata row₀) acc₀ corr₀
-  pub clean : map_from (sanitised nodata) row i ≡ sanitised_row nodata row₀
-  pub tallies : tallies_from nodata s.so_far.tallies (drop i row) ≡ row_tallies nodata row₀
-  pub digests : digest_of s.so_far.digest (sanitised_row nodata (drop i row)) ≡ digest_of digest (sanitised_row nodata row₀)
-
-pub start : (nodata digest : ℕ) (row : List ℕ) (acc corr : List Float) (t : CellTallies) → t ≡ no_tallies
-    → Midway nodata digest row acc corr acc corr row (record { prefix = record { sum = f64zero; dropped = f64zero }; so_far = record { digest = digest; tallies = t } }) 0
-unfolding acc_after corr_after
-start nodata digest row acc corr t e = rw e (record { cells = refl; sums = refl; corrections = refl; clean = refl; tallies = refl; digests = refl })
-
-module _ (nodata : ℕ) (row : List ℕ) (acc corr : List Float) (s : Carry) (i : ℕ) (r : i < length row) where
-  -- a column swept with cell i
-  abbrev cell : ℕ → Column
-  cell j = swept nodata s (get_or row i 0) (get_or acc j nan) (get_or corr j nan)
-
-  module _ (j : ℕ) (a : j < length acc) (c : j < length corr) where
-    turn_sums : (from_acc nodata (cell j).carry (set row i (cell j).cell) (set acc j (cell j).after.sum) (set corr j (cell j).after.dropped) (i + 1) (j + 1)
-        ≡ from_acc nodata s row acc corr i j)
-        × (from_corr nodata (cell j).carry (set row i (cell j).cell) (set acc j (cell j).after.sum) (set corr j (cell j).after.dropped) (i + 1) (j + 1)
-        ≡ from_corr nodata s row acc corr i j)
-    unfolding swept
-    turn_sums =
-        rw (
-          add-one i,
-          add-one j,
-          take-suc-set acc j,
-          take-suc-set corr j,
-          drop-set-lt (suc i) row i _ (le_refl (suc i)),
-          drop-set-lt (suc j) acc j _ (le_refl (suc j)),
-          drop-set-lt (suc j) corr j _ (le_refl (suc j)),
-          append_snoc,
-          append_snoc,
-          drop-cons row i 0 r,
-          drop-cons acc j nan a,
-          drop-cons corr j nan c,
-        ) (refl, refl)
-
-  turn_digest : (d x : ℕ) → x ≡ sanitised nodata (get_or row i 0)
-      → digest_of (mixed d x) (sanitised_row nodata (drop (i + 1) (set row i x))) ≡ digest_of d (sanitised_row nodata (drop i row))
-  turn_digest d x e = rw (add-one, drop-set-lt (suc i) row i x (le_refl (suc i)), drop-cons row i 0 r, e)
-
-  pub turn : (digest : ℕ) (row₀ : List ℕ) (acc₀ corr₀ : List Float) (col : Column) → col ≡ cell (i + 1)
-      → i + 1 < length acc → i + 1 < length corr → i < 0xffff_ffff_ffff_ffff
-      → Midway nodata digest row₀ acc₀ corr₀ acc corr row s i
-      → Midway nodata digest row₀ acc₀ corr₀ (set acc (i + 1) col.after.sum) (set corr (i + 1) col.after.dropped) (set row i col.cell) col.carry (i + 1)
-  unfolding swept
-  turn digest row₀ acc₀ corr₀ col e a c b m =
-      let one = one_more s.so_far.tallies (kind_of nodata (get_or row i 0)) in
-      let t = tallies_held (tallied s.so_far.tallies (kind_of nodata (get_or row i 0))) (omega (arith, one, m.cells)) in
-      rw e (record {
-        cells = ap cells_of t ∙ one ∙ ap (λ n. n + 1) m.cells;
-        sums = (turn_sums (i + 1) a c).0 ∙ m.sums;
-        corrections = (turn_sums (i + 1) a c).1 ∙ m.corrections;
-        clean = map_turn (sanitised nodata) row i _ r refl ∙ m.clean;
-        tallies = rw t (tallies_turn nodata s.so_far.tallies row i _ r) ∙ m.tallies;
-        digests = turn_digest s.so_far.digest _ refl ∙ m.digests;
-      })
 
 -- a sweep of no cells, or of no columns, leaves everything
 module _ (prefix rest : Float) where

@@ -79,6 +79,7 @@ fn finish(rest: &mut [u32], nodata: u32, so_far: Swept) -> Swept
 
 // A row is sanitised in place and goes into accumulator and corrections, each cell in one pass over all that becomes of it.
 // The first cell of accumulator and corrections belongs to no column.
+#[tactic(auto, unfolding(crate::specs::Sweep::acc_after, crate::specs::Sweep::corr_after))]
 pub fn sweep_row(
     acc: &mut [f64],
     corr: &mut [f64],

@@ -13,7 +13,7 @@ use lib.Ieee.Fits.{down_pos}
 use lib.Ieee.Scale.{finite}
 use Rattle.refusal.specs.Refusal.{answered, in_no_cell, not_its_makers}
 use Rattle.refusal.proofs.Chains.{never, went_past}
-use Rattle.refusal.proofs.Tests.{both}
+use Rattle.std.proofs.lemmas.Bool.{and_parts}
 use Rattle.float.specs.Float.{f64zero, f64of, index_below}
 use Rattle.std.specs.Prelude.{Option, Some, None}
 use Rattle.geodesy.specs.declared.LatLon.{LatLon}
@@ -53,7 +53,7 @@ pub index_below_lem : (x : Float) (n i : ℕ) → 0 < n → n ≤ limit → inde
 unfolding index_below of_int
 index_below_lem x n i p h e =
     let q = at_below (le f64zero x && lt x (f64of n)) (to_unsigned 32 x) i e in
-    rw (← q.1) (whole_below x (f64of n) n p (round_whole binary64 false n (omega arith)) (both (le f64zero x) (lt x (f64of n)) q.0).1)
+    rw (← q.1) (whole_below x (f64of n) n p (round_whole binary64 false n (omega arith)) (and_parts (le f64zero x) (lt x (f64of n)) q.0).1)
 
 -- ---- a lookup
 

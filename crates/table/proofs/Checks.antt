@@ -10,7 +10,7 @@ use lib.ListN.{length}
 use lib.Ieee.{Float, nan}
 use Rattle.refusal.specs.Refusal.{answered, first, passed, not_its_makers, wrong_table_length, row_off_grid, column_off_grid}
 use Rattle.refusal.proofs.Chains.{first_passed, answered_passed}
-use Rattle.refusal.proofs.Tests.{both}
+use Rattle.std.proofs.lemmas.Bool.{and_parts}
 use Rattle.grid.specs.declared.Col.{Col}
 use Rattle.grid.specs.declared.Grid.{Grid}
 use Rattle.grid.specs.Grid.{valid_grid}
@@ -41,7 +41,7 @@ rectangle_passed g right rows cols e =
     let p11 = first_passed (not right) wrong_table_length _ tt p22.1 in
     let p15 = first_passed (leb g.height rows.south.0) row_off_grid _ tt p11.1 in
     let p16 = first_passed (not (span_on_grid g.width cols)) column_off_grid passed tt p15.1 in
-    let made = both (valid_grid g) (leb rows.north.0 rows.south.0) (not-false _ p22.0) in
+    let made = and_parts (valid_grid g) (leb rows.north.0 rows.south.0) (not-false _ p22.0) in
     record {
       valid = made.0;
       ordered = leb-true _ _ made.1;
@@ -58,9 +58,9 @@ module _ (g : Grid) (cells : List Float) (rows : RowBand) (cols : ColSpan) where
   pub held_facts : rectangle_held g cells rows cols ≡ true → Held g (length cells) rows cols
   unfolding rectangle_held
   held_facts e =
-      let p = both _ _ e in
-      let q = both _ _ p.0 in
-      let r = both _ _ q.1 in
+      let p = and_parts _ _ e in
+      let q = and_parts _ _ p.0 in
+      let r = and_parts _ _ q.1 in
       record {
         ordered = leb-true _ _ r.0;
         right = right_length g cells q.0;
@@ -98,7 +98,7 @@ module _ (g : Grid) (cells : List Float) (rows : RowBand) (cols : ColSpan) where
 -- both columns of a span are the grid's
 pub span_columns : (width : ℕ) (west east : Col) → span_on_grid width (Through west east) ≡ true → (west.0 < width) × (east.0 < width)
 span_columns width west east e =
-    let p = both (ltb west.0 width) (ltb east.0 width) e in
+    let p = and_parts (ltb west.0 width) (ltb east.0 width) e in
     (ltb-true _ _ p.0, ltb-true _ _ p.1)
 
 module _ (g : Grid) (cells : ℕ) (rows : RowBand) (cols : ColSpan) (h : Held g cells rows cols) where

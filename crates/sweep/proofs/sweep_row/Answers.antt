@@ -4,18 +4,21 @@ use Rattle.std.proofs.Common.{◌≡◌, ◌∙◌, refl, sym, arith, drop, leng
 use Rattle.std.proofs.lemmas.Grind.{common_steps}
 use Rattle.std.proofs.lemmas.Slice.{between_to_end}
 use Rattle.std.proofs.Math.Nat.{le_refl}
-use Rattle.raster.proofs.Tallies.{parts_held}
-use Rattle.sweep.proofs.Sweeps.{start, turn, end_acc, end_corr}
+use Rattle.raster.proofs.Tallies.{parts_held, one_more, tallies_held}
+use Rattle.sweep.specs.private.Cell.{swept}
+use Rattle.sweep.proofs.Sweeps.{end_acc, end_corr}
 use Rattle.sweep.proofs.sweep_row.Goals as goal
 
-pub loop-i-init : goal.loop-i-init
-loop-i-init c = start _ _ _ _ _ _ c.none.ensures
-
 pub loop-i-preserved : goal.loop-i-preserved
-loop-i-preserved c =
-    let l = c.loop-i in
-    turn _ l.row l.acc l.corr l.carry l.i (omega arith) _ _ _ _ c.sweep_cell-column.result c.sweep_cell-column.ensures
-    (omega arith) (omega arith) (omega arith) l.invariant
+unfolding swept
+loop-i-preserved c = record {
+  cells = grind (arith, common_steps, one_more, tallies_held);
+  sums = grind (arith, common_steps);
+  corrections = grind (arith, common_steps);
+  clean = grind (arith, common_steps);
+  tallies = grind (arith, common_steps, one_more, tallies_held);
+  digests = grind (arith, common_steps);
+}
 
 pub returns : goal.returns
 returns c =

@@ -23,5 +23,5 @@ returns c =
     let z : kernel_refusal a.grid a.centre a.radius (length a.half_widths.now) ≡ 0 = search rules in
     let m = made_cap a.grid a.centre a.radius a.half_widths.now _ _ _ _ _ _ c.if-radius.false c.lat_at.ensures
     c.cap_over.ensures
-    c.cap_terms-cap.ensures c.north_of-north.ensures.0 c.south_of.ensures.0 (fill_front _ _ _ _ _ c.fill.ensures (search rules)) in
+    c.terms-cap.ensures c.north_of-north.ensures.0 c.south_of.ensures.0 (fill_front _ _ _ _ _ c.fill.ensures (search rules)) in
     rw z (ap answered m.0, m.1)

@@ -22,7 +22,7 @@ box_sum-first-requires c =
 pub returns-then-west-east : goal.returns-then-west-east
 unfolding rectangle_sum
 returns-then-west-east c =
-    let inside = le-leb _ _ c.if-west-east.true in
+    let inside = le-leb c.args.west.0 c.args.east.0 (omega arith) in
     rw (c.box_sum-first.ensures, c.first_end.ensures, inside)
 
 pub box_sum-requires : goal.box_sum-requires
@@ -33,4 +33,4 @@ box_sum-requires c =
 pub returns : goal.returns
 unfolding rectangle_sum
 returns c =
-    rw (c.box_sum.ensures, c.box_sum-first.ensures, c.first_end.ensures, lt-leb _ _ c.if-west-east.false, add-one)
+    rw (c.box_sum.ensures, c.box_sum-first.ensures, c.first_end.ensures, lt-leb c.args.west.0 c.args.east.0 (omega arith), add-one)

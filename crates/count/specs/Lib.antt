@@ -1,2 +1,0 @@
--- The definition that the contracts of `count` cite.
-pub mod Input

@@ -1,7 +1,0 @@
--- `remainder::units_of` meets its contract.
--- Assumes nothing.
-use Rattle.remainder.proofs.Remainders.{units_low}
-use Rattle.remainder.proofs.units_of.Goals as goal
-
-pub returns-then-p-lt-HIDDEN : goal.returns-then-p-lt-HIDDEN
-returns-then-p-lt-HIDDEN c = units_low c.args.p c.if-p-lt-HIDDEN.true

@@ -1,9 +1,0 @@
--- `replay::answers::put_answer` meets its contract. The measure is what is left.
-use Rattle.std.proofs.Common.{◌-◌, length}
-use Rattle.replay.proofs.answers.put_answer.Given as goal
-
-abbrev pub invariant-loop-i : goal.invariant-loop-i
-invariant-loop-i l = Unit {0}
-
-abbrev pub decreases-loop-i : goal.decreases-loop-i
-decreases-loop-i l = length l.words - l.i

@@ -1,8 +1,0 @@
--- `replay::run` meets its contract. The measure is the budget.
-use Rattle.replay.proofs.run.Given as goal
-
-abbrev pub invariant-loop-budget : goal.invariant-loop-budget
-invariant-loop-budget g l = Unit {0}
-
-abbrev pub decreases-loop-budget : goal.decreases-loop-budget
-decreases-loop-budget g l = l.budget

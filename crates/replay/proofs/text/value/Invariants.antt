@@ -1,9 +1,0 @@
--- `replay::text::value` meets its contract. The measure is what is left.
-use Rattle.std.proofs.Common.{◌-◌, length}
-use Rattle.replay.proofs.text.value.Given as goal
-
-abbrev pub invariant-loop-i : goal.invariant-loop-i
-invariant-loop-i l = Unit {0}
-
-abbrev pub decreases-loop-i : goal.decreases-loop-i
-decreases-loop-i l = length l.text - l.i
