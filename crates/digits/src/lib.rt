@@ -14,6 +14,7 @@ pub const NEWLINE: u8 = b'\n';
 
 // A lent slice, and the offset of what is laid next.
 // (d) No fmt::Write: what write! promises of the bytes holds only where it answers Ok, and nothing promises that it does.
+#[derive(Drop)]
 pub struct Page<'a> {
     out: &'a mut [u8],
     at: usize,

@@ -35,21 +35,10 @@ empty_sized d = record { acc = length-replicate _ _; corr = length-replicate _ _
 
 -- ---- builder and buffers after n rows
 
--- as the rows that the builder counts leave them
-pub record BuiltRows (card : List ℕ) (h : Header) (b : Builder) (m : Buffers) : Type 0 where
-  pub builder : b ≡ (built_from card h b.rows).builder
-  pub lent : m ≡ (built_from card h b.rows).lent
-
-rows_of : (card : List ℕ) (h : Header) (n : ℕ) → (built_from card h n).builder.rows ≡ n
-unfolding first_builder builder_after
-rows_of card h zero = refl
-rows_of card h (suc n) = ap suc (rows_of card h n)
-
-counted : (card : List ℕ) (h : Header) (n : ℕ) (b : Builder) (m : Buffers) → b ≡ (built_from card h n).builder → m ≡ (built_from card h n).lent
-    → (b.rows ≡ n) × BuiltRows card h b m
-counted card h n b m p q =
-    let e : b.rows ≡ n = ap (λ (x : Builder). x.rows) p ∙ rows_of card h n in
-    (e, record { builder = p ∙ ap (λ (k : ℕ). (built_from card h k).builder) (sym e); lent = q ∙ ap (λ (k : ℕ). (built_from card h k).lent) (sym e) })
+-- as so many rows leave them
+pub record BuiltRows (card : List ℕ) (h : Header) (n : ℕ) (b : Builder) (m : Buffers) : Type 0 where
+  pub builder : b ≡ (built_from card h n).builder
+  pub lent : m ≡ (built_from card h n).lent
 
 record Going (d : Decimation) (n : ℕ) (b : Builder) (m : Buffers) : Type 0 where
   decimation : b.decimation ≡ d
@@ -105,13 +94,12 @@ module _ {card : List ℕ} {h : Header} (a : Accepted card h) where
   never_refused e p = never (rw (e, starts) at p)
 
   pub started : {m left : Buffers} {b : Builder} → m ≡ empty_buffers d → answered b ≡ (start_call d.source d.factor h.nodata m).answer
-      → left ≡ (start_call d.source d.factor h.nodata m).buffers → (b.rows ≤ d.source.height) × BuiltRows card h b left
+      → left ≡ (start_call d.source d.factor h.nodata m).buffers → BuiltRows card h 0 b left
   unfolding start_call
-  started {left = left} {b = b} e p q =
+  started e p q =
       let grid : coarse_grid d.source d.factor ≡ d.grid = ap (λ (x : Decimation). x.grid) (sym (made a).is) in
       let cleared = rw (e, starts) at q ∙ ap (λ (x : Grid). cleared_buffers x (empty_buffers d)) grid in
-      let z = counted card h 0 b left (answered_same (rw (e, starts) at p)) cleared in
-      (omega (arith, z.0), z.1)
+      record { builder = answered_same (rw (e, starts) at p); lent = cleared }
 
   -- ---- a row call
 
@@ -125,14 +113,13 @@ module _ {card : List ℕ} {h : Header} (a : Accepted card h) where
       let passes = row_passes b₀ (row_at card h n) m₀ (taken n b₀ m₀ (going n (omega arith)) l) in
       rw (add-one, p, q, e, passes) (refl, refl)
 
-  -- fewer rows are left, and no more are in than there are
-  pub row_taken : {b next : Builder} {m left : Buffers} {row : List ℕ} {o : Outcome Builder} → BuiltRows card h b m → b.rows < d.source.height
-      → row ≡ row_at card h b.rows → o ≡ (row_call b row m).answer → left ≡ (row_call b row m).buffers → ((x : Builder) → o ≡ answered x → next ≡ x)
-      → (d.source.height - next.rows < d.source.height - b.rows) × (next.rows ≤ d.source.height) × BuiltRows card h next left
-  row_taken {b} {next} {left = left} s l r p q k =
-      let call = called b.rows s.builder s.lent l r in
-      let z = counted card h (b.rows + 1) next left (k _ (p ∙ call.0)) (q ∙ call.1) in
-      (omega (arith, z.0, l), omega (arith, z.0, l), z.1)
+  module _ {n : ℕ} {b : Builder} {m : Buffers} {row : List ℕ} (s : BuiltRows card h n b m) (l : n < d.source.height) (r : row ≡ row_at card h n) where
+    pub row_taken : {next : Builder} {left : Buffers} → answered next ≡ (row_call b row m).answer → left ≡ (row_call b row m).buffers
+        → BuiltRows card h (n + 1) next left
+    row_taken p q = let call = called n s.builder s.lent l r in record { builder = answered_same (p ∙ call.0); lent = q ∙ call.1 }
+
+    pub row_never_refused : {A : Type 0} {k : ℕ} → refused k ≡ (row_call b row m).answer → A
+    row_never_refused p = never (p ∙ (called n s.builder s.lent l r).0)
 
   -- ---- with every row in
 
@@ -140,17 +127,13 @@ module _ {card : List ℕ} {h : Header} (a : Accepted card h) where
   whole = going d.source.height (omega arith)
 
   -- a finish
-  pub finished : {b : Builder} {m : Buffers} → BuiltRows card h b m → b.rows ≤ d.source.height → d.source.height ≤ b.rows
-      → Finished card h (finish_call b m) m.table
+  pub finished : {b : Builder} {m : Buffers} → BuiltRows card h d.source.height b m → Finished card h (finish_call b m) m.table
   unfolding finish_call
-  finished {b} {m} s l k =
+  finished s =
       let b₀ = (whole_build card h).builder in
       let m₀ = (whole_build card h).lent in
-      let e : b.rows ≡ d.source.height = omega (arith, l, k) in
-      let builder : b ≡ b₀ = s.builder ∙ ap (λ (n : ℕ). (built_from card h n).builder) e in
-      let lent : m ≡ m₀ = s.lent ∙ ap (λ (n : ℕ). (built_from card h n).lent) e in
       let passes = finish_passes b₀ m₀ (record { valid = whole.valid; lengths = whole.lengths; rows = rw (whole.rows, whole.decimation) }) in
-      record { table = rw (builder, lent, passes); filled = ap (λ (x : Buffers). x.table) lent }
+      record { table = rw (s.builder, s.lent, passes); filled = ap (λ (x : Buffers). x.table) s.lent }
 
   -- the table that the rows leave
   pub table_filled : length (whole_build card h).lent.table ≡ payload_length d.grid.width d.grid.height

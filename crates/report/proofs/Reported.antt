@@ -1,6 +1,7 @@
 -- The whole text: its lines behind one another, and how long it is at most. Assumes nothing.
 use mathlib.Core.Bool.{Bool, true, false, not}
 use mathlib.Core.List.{List, ◌++◌}
+use mathlib.Core.Path.{◌≡◌}
 use Prim.Native.Nat.{ℕ, zero, suc, ◌*◌, ◌^◌, ◌<◌, ◌≤◌}
 use native.Mathlib.Omega.{arith}
 use lib.Dec.{T, ltb, leb, lit<}
@@ -8,21 +9,23 @@ use lib.Ieee.{Float, lt}
 use lib.Ieee.Scale.{finite}
 use lib.ListN.{length, length-append}
 use Rattle.refusal.proofs.Chains.{answered_same}
-use Rattle.refusal.specs.Refusal.{answered, first, passed, outcome, radius_not_finite, radius_below_zero, row_off_grid, columns_dont_close, column_off_grid}
+use Rattle.refusal.specs.Refusal.{answered, refused, first, passed, outcome, radius_not_finite, radius_below_zero, row_off_grid, columns_dont_close, column_off_grid}
 use Rattle.float.specs.Float.{f64zero}
 use Rattle.grid.specs.declared.Grid.{Grid}
 use Rattle.grid.specs.Lookup.{closes}
 use Rattle.builder.specs.declared.BuiltTable.{BuiltTable}
 use Rattle.builder.specs.Build.{built_table, total_of}
-use Rattle.text.specs.Text.{rows_line, cells_line, total_line}
-use Rattle.digits.specs.Laid.{Laid}
-use Rattle.digits.proofs.Laying.{laid_then, laid_whole}
-use Rattle.text.proofs.Lengths.{rows_length, cells_length, total_length, circle_length, circle_refused_length}
+use Rattle.std.specs.Borrow.{MutBor}
+use Rattle.text.specs.Text.{refused_line, rows_line, cells_line, total_line}
+use Rattle.digits.specs.declared.Page.{Page}
+use Rattle.digits.specs.Laid.{Laid, Lays, Begins}
+use Rattle.digits.proofs.Laying.{laid_whole, lays_then}
+use Rattle.text.proofs.Lengths.{refused_length, rows_length, cells_length, total_length, circle_length, circle_refused_length}
 use Rattle.card.specs.declared.Header.{Header}
 use Rattle.card.specs.declared.CardCircle.{CardCircle}
-use Rattle.card.specs.Card.{circle_at}
+use Rattle.card.specs.Card.{read_header, circle_at}
 use Rattle.card.specs.private.Accepted.{Accepted}
-use Rattle.report.specs.Printed.{circle_checks, circle_count, circle_text, circles_text, report_text}
+use Rattle.report.specs.Printed.{circle_checks, circle_count, circle_text, circles_text, report_text, printed}
 use Rattle.report.specs.private.Steps.{whole_build, Finished, Printed}
 use Rattle.report.proofs.Sizes.{sizes}
 use Rattle.report.proofs.Building.{all_tallied}
@@ -84,7 +87,7 @@ summary_length card h a =
     )
 
 -- 69 bytes, and 34 for each of 4,096 circles
-report_length : (card : List ℕ) (h : Header) → Accepted card h → length (report_text card (answered h)) ≤ 139333
+pub report_length : (card : List ℕ) (h : Header) → Accepted card h → length (report_text card (answered h)) ≤ 139333
 report_length card h a =
     let cells = (whole_build card h).lent.table in
     let few : h.circles ≤ 4096 = omega (arith, a.circles, a.whole) in
@@ -98,13 +101,38 @@ report_length card h a =
 -- ---- the text
 
 -- the summary, and the circles behind it, are the whole text
-pub report_printed : {card : List ℕ} {h : Header} {t : BuiltTable} {cells : List Float} {o m e : List ℕ} {at r : ℕ}
-    → Accepted card h → Finished card h (answered t) cells
-    → Laid o 0 (rows_line h.decimation.source.height ++ cells_line t.tallies ++ total_line t.total) m at
-    → Laid m at (circles_text card h cells h.circles) e r → Printed (report_text card (answered h)) o e r
+pub report_printed : {card : List ℕ} {h : Header} {t : BuiltTable} {cells : List Float} {o m e : Page} → Accepted card h
+    → Finished card h (answered t) cells → Lays o (rows_line h.decimation.source.height ++ cells_line t.tallies ++ total_line t.total) m
+    → Lays m (circles_text card h cells h.circles) e → Lays o (report_text card (answered h)) e
 unfolding built_table
-report_printed {card} {h} {o = o} {e = e} {r = r} a f front circles =
-    let whole : Laid o 0 (report_text card (answered h)) e r = rw (answered_same f.table, f.filled) at (laid_then front circles) in
-    let short = report_length card h a in
-    let size = laid_whole whole (omega (arith, short)) in
-    record { size = size; left = whole.left; bounded = omega (arith, size, short) }
+report_printed a f front circles = rw (answered_same f.table, f.filled) at (lays_then front circles)
+
+pub printed_report : (card : List ℕ) (h : Header) → read_header card ≡ answered h → printed card ≡ report_text card (answered h)
+unfolding printed
+printed_report card h e = rw e
+
+pub printed_refused : (card : List ℕ) (n : ℕ) → read_header card ≡ refused n → printed card ≡ refused_line n
+unfolding printed
+printed_refused card n e = rw e
+
+-- a text that is short enough, laid over a lent slice from its front on
+pub page_printed : {lent : MutBor (List ℕ)} {page end : Page} {text : List ℕ} → Begins lent 0 page → Lays page text end → length text ≤ 139333
+    → Printed text lent.now end.out.now end.at
+page_printed {lent} {page} {end} {text} b l h =
+    let laid : Laid lent.now 0 text end.out.now end.at = rw (b.now, b.place) at l.laid in
+    let size = laid_whole laid (omega (arith, h)) in
+    record { size = size; left = laid.left; bounded = omega (arith, size, h) }
+
+-- the same of the text that the card's bytes give, and how long it is at most
+pub report_whole : {card bytes : List ℕ} {h : Header} {t : BuiltTable} {cells : List Float} {o m e : Page} → read_header card ≡ answered h → bytes ≡ card
+    → Accepted bytes h → Finished bytes h (answered t) cells
+    → Lays o (rows_line h.decimation.source.height ++ cells_line t.tallies ++ total_line t.total) m
+    → Lays m (circles_text bytes h cells h.circles) e → Lays o (printed card) e × (length (printed card) ≤ 139333)
+report_whole {card} {bytes} {h} p q a f front circles =
+    let same : printed card ≡ report_text bytes (answered h) = rw (printed_report card h p, q) in
+    (rw same (report_printed a f front circles), rw same (report_length bytes h a))
+
+-- the text of a card that is refused
+pub refused_whole : (card : List ℕ) (n : ℕ) {o e : Page} → printed card ≡ refused_line n → n < 2 ^ 32 → Lays o (refused_line n) e
+    → Lays o (printed card) e × (length (printed card) ≤ 139333)
+refused_whole card n p h line = (rw p line, rw p (omega (arith, refused_length n h)))

@@ -29,8 +29,8 @@ front_inside e h = rw e at h
 pub front_length : {A : Type 0} (l : List A) {n m : ℕ} → m ≡ length l → n ≤ m → n ≡ length (take n l)
 front_length l {n} e h = sym (length-take-le n l (front_inside e h))
 
-pub zeros_length : {l : List Float} (m : ℕ) → l ≡ replicate m f64zero → m ≡ length l
-zeros_length m e = rw e (sym (length-replicate m f64zero))
+pub filled_length : {A : Type 0} {l : List A} (m : ℕ) (x : A) → l ≡ replicate m x → m ≡ length l
+filled_length m x e = rw e (sym (length-replicate m x))
 
 -- the first n of m zeros are n zeros
 take_zeros : {A : Type 0} (n m : ℕ) (v : A) → n ≤ m → take n (replicate m v) ≡ replicate n v

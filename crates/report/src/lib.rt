@@ -1,7 +1,7 @@
 // What `count` prints of a card (document 01): the build of its table, its circles, the text to the last byte.
 #![tactic(auto)]
 
-mod buffers;
+mod buffer;
 mod build;
 mod circles;
 mod lines;

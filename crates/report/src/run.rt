@@ -1,32 +1,38 @@
 // The whole work of `count` on a card: its header, the build, the text.
-ghost use Rattle.std.specs.Prelude.{◌≡◌, ◌≤◌, length};
+ghost use Rattle.std.specs.Prelude.{◌≡◌, ◌≤◌, length, OnOk, IfErr};
 ghost use Rattle.std.proofs.lemmas.List.Edits.{sets};
-ghost use Rattle.refusal.specs.Refusal.{answered};
-ghost use Rattle.card.specs.private.Accepted.{Accepted};
-ghost use Rattle.report.specs.Printed.{report_text, printed};
-ghost use Rattle.report.specs.private.Steps.{Printed};
+ghost use Rattle.refusal.specs.Refusal.{number_of};
+ghost use Rattle.text.specs.Text.{refused_line};
+ghost use Rattle.digits.specs.Laid.{Lays};
+ghost use Rattle.report.specs.Printed.{printed};
 
-use crate::buffers::table_buffer;
+use crate::buffer::{PLACES, filled};
 use crate::build::build;
-use crate::lines::{put_circles, put_refused, put_summary};
-use builder::FinishAnswer;
-use card::{Header, HeaderAnswer, read_header};
+use crate::lines::{put_circles, put_summary};
+use card::AcceptedCard;
+use digits::Page;
+use refusal::Refusal;
 
-// The build over a table of zeros, then the text. The build of an accepted card is never refused.
-fn report(card: &[u8], h: Header, out: &mut [u8]) -> usize
-    requires { Accepted card.now h }
-    ensures { Printed (report_text card.now (answered h)) out.old out.new result }
+// The build over a table of zeros, then the text. A card that is refused leaves the page as it is.
+fn report(card: &[u8], page: &mut Page) -> Result<(), Refusal>
+    ensures laid { OnOk result ((Lays page.old (printed card.now) page.new) × (length (printed card.now) ≤ 139333)) }
+    ensures left { IfErr result (λ r. (page.new ≡ page.old) × (printed card.now ≡ refused_line (number_of r))) }
 {
-    let len = layout::payload_len(h.decimation.grid);
-    let mut table = table_buffer();
-    let table = &mut table[..len];
-    let built = build(card, h, table);
-    match built {
-        FinishAnswer::Finished(t) => {
-            let at = put_summary(out, h.decimation.source.height, t);
-            put_circles(card, h, table, out, at)
-        }
-        FinishAnswer::Refused(n) => put_refused(out, n),
+    let card = AcceptedCard::read(card)?;
+    let mut table = filled::<f64, PLACES>(0.0);
+    let table = &mut table[..layout::payload_len(card.header.decimation.grid)];
+    let built = build(card, table)?;
+    put_summary(page, card.header.decimation.source.height, built);
+    put_circles(card, table, page);
+    Ok(())
+}
+
+// The text of a card that is refused is the refusal's line alone.
+fn put_text(card: &[u8], page: &mut Page)
+    ensures { (Lays page.old (printed card.now) page.new) × (length (printed card.now) ≤ 139333) }
+{
+    if let Err(refusal) = report(card, page) {
+        text::refused_line(page, refusal.number());
     }
 }
 
@@ -36,9 +42,7 @@ pub fn answer(card: &[u8], out: &mut [u8]) -> usize
     ensures { (result ≡ length (printed card.now))
         × (out.new ≡ sets out.old 0 (printed card.now)) × (result ≤ 139333) }
 {
-    let header = read_header(card);
-    match header {
-        HeaderAnswer::Accepted(h) => report(card, h, out),
-        HeaderAnswer::Refused(n) => put_refused(out, n),
-    }
+    let mut page = Page::new(out, 0);
+    put_text(card, &mut page);
+    page.end()
 }

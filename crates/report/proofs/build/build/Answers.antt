@@ -1,65 +1,73 @@
 -- `report::build::build` meets its contract.
 -- Assumes nothing.
-use mathlib.Core.Path.{refl, sym}
-use native.Mathlib.Omega.{arith}
-use Rattle.report.proofs.Sizes.{front_inside, front_length, zeros_length, sizes, emptied}
-use Rattle.report.proofs.Building.{never_refused, started, row_taken, finished}
+use Rattle.std.proofs.Common.{◌≡◌, refl, sym, ◌∙◌, arith, rules}
+use Rattle.report.proofs.Sizes.{front_inside, front_length, filled_length, sizes, emptied}
+use Rattle.report.proofs.Building.{never_refused, started, row_taken, row_never_refused, finished}
 use Rattle.report.proofs.build.build.Goals as goal
 
 -- ---- the buffers
 pub slice_bounds-row-end : goal.slice_bounds-row-end
-slice_bounds-row-end c = front_inside c.words_buffer-row.ensures (sizes c.requires.0).row
+slice_bounds-row-end c = front_inside (filled_length 1024 _ c.filled-row.ensures) (sizes c.args.card.accepted).row
 
 pub slice_bounds-row-end-2 : goal.slice_bounds-row-end-2
-slice_bounds-row-end-2 c = front_length _ c.words_buffer-row.ensures (sizes c.requires.0).row
+slice_bounds-row-end-2 c = front_length _ (filled_length 1024 _ c.filled-row.ensures) (sizes c.args.card.accepted).row
 
 pub slice_bounds-acc-end : goal.slice_bounds-acc-end
-slice_bounds-acc-end c = front_inside (zeros_length 1024 c.row_buffer-acc.ensures) (sizes c.requires.0).width
+slice_bounds-acc-end c = front_inside (filled_length 1024 _ c.filled-acc.ensures) (sizes c.args.card.accepted).width
 
-pub slice_bounds-acc-end-2 : goal.slice_bounds-acc-end-2
-slice_bounds-acc-end-2 c = front_length _ (zeros_length 1024 c.row_buffer-acc.ensures) (sizes c.requires.0).width
+pub slice_bounds-lent-end : goal.slice_bounds-lent-end
+slice_bounds-lent-end c = front_length _ (filled_length 1024 _ c.filled-acc.ensures) (sizes c.args.card.accepted).width
 
 pub slice_bounds-corr-end : goal.slice_bounds-corr-end
-slice_bounds-corr-end c = front_inside (zeros_length 1024 c.row_buffer-corr.ensures) (sizes c.requires.0).width
+slice_bounds-corr-end c = front_inside (filled_length 1024 _ c.filled-corr.ensures) (sizes c.args.card.accepted).width
 
-pub slice_bounds-corr-end-2 : goal.slice_bounds-corr-end-2
-slice_bounds-corr-end-2 c = front_length _ (zeros_length 1024 c.row_buffer-corr.ensures) (sizes c.requires.0).width
+pub slice_bounds-lent-end-2 : goal.slice_bounds-lent-end-2
+slice_bounds-lent-end-2 c = front_length _ (filled_length 1024 _ c.filled-corr.ensures) (sizes c.args.card.accepted).width
 
 pub slice_bounds-coarse-end : goal.slice_bounds-coarse-end
-slice_bounds-coarse-end c = front_inside (zeros_length 1024 c.row_buffer-coarse.ensures) (sizes c.requires.0).columns
+slice_bounds-coarse-end c = front_inside (filled_length 1024 _ c.filled-coarse.ensures) (sizes c.args.card.accepted).columns
 
-pub slice_bounds-coarse-end-2 : goal.slice_bounds-coarse-end-2
-slice_bounds-coarse-end-2 c = front_length _ (zeros_length 1024 c.row_buffer-coarse.ensures) (sizes c.requires.0).columns
+pub slice_bounds-lent-end-3 : goal.slice_bounds-lent-end-3
+slice_bounds-lent-end-3 c = front_length _ (filled_length 1024 _ c.filled-coarse.ensures) (sizes c.args.card.accepted).columns
 
 -- ---- a start that refuses: never
-pub returns-in-Refused : goal.returns-in-Refused
-returns-in-Refused c =
-    let empty = emptied c.requires.0 c.row_buffer-acc.ensures c.row_buffer-corr.ensures c.row_buffer-coarse.ensures c.requires.1 in
-    never_refused c.requires.0 empty (rw c.in-Refused.is at c.start-started.ensures.0)
+pub returns-in_err-built : goal.returns-in_err-built
+returns-in_err-built c =
+    let empty = emptied c.args.card.accepted c.filled-acc.ensures c.filled-corr.ensures c.filled-coarse.ensures c.requires in
+    never_refused c.args.card.accepted empty c.in_err-built.ensures.answer
 
--- ---- the rows
-pub loop-built-init : goal.loop-built-init
-loop-built-init c =
-    let start = c.start-started.ensures in
-    let empty = emptied c.requires.0 c.row_buffer-acc.ensures c.row_buffer-corr.ensures c.row_buffer-coarse.ensures c.requires.1 in
-    let first = started c.requires.0 empty (rw c.in-Accepted.is at start.0) start.1 in
-    (first.1, first.0, sym (front_length _ c.words_buffer-row.ensures (sizes c.requires.0).row), refl)
+pub loop-i-init : goal.loop-i-init
+loop-i-init c =
+    let empty = emptied c.args.card.accepted c.filled-acc.ensures c.filled-corr.ensures c.filled-coarse.ensures c.requires in
+    record {
+      built = started c.args.card.accepted empty c.in_ok-built.ensures.answer c.start.ensures.left;
+      wide = sym (front_length _ (filled_length 1024 _ c.filled-row.ensures) (sizes c.args.card.accepted).row);
+      same = record { acc = refl; corr = refl; coarse = refl; table = refl };
+    }
 
--- by `omega`, so that the edit that reads the first row again is refused for what it reads, and not here
-pub row_at-requires : goal.row_at-requires
-row_at-requires c = (c.requires.0, omega (arith, c.loop-built-test.true), c.loop-built.invariant.2)
+pub returns-in_err-built-2 : goal.returns-in_err-built-2
+returns-in_err-built-2 c =
+    row_never_refused c.args.card.accepted c.loop-i.invariant.built c.loop-i-test.true c.read_row.ensures c.in_err-built-2.ensures.answer
 
-pub loop-built-smaller : goal.loop-built-smaller
-loop-built-smaller c =
-    let row = c.row.ensures in
-    (row_taken c.requires.0 c.loop-built.invariant.0 c.loop-built-test.true c.row_at.ensures row.0 row.2 c.kept-built.ensures).0
+pub loop-i-preserved : goal.loop-i-preserved
+loop-i-preserved c =
+    let before = c.loop-i.invariant.same in
+    let row = c.row.ensures.same_references in
+    record {
+      built =
+          row_taken c.args.card.accepted c.loop-i.invariant.built c.loop-i-test.true c.read_row.ensures c.in_ok-built-2.ensures.answer c.row.ensures.left;
+      wide = omega arith;
+      same =
+          record {
+            acc = before.acc ∙ row.acc;
+            corr = before.corr ∙ row.corr;
+            coarse = before.coarse ∙ row.coarse;
+            table = before.table ∙ row.table;
+          };
+    }
 
-pub loop-built-preserved : goal.loop-built-preserved
-loop-built-preserved c =
-    let row = c.row.ensures in
-    let next = row_taken c.requires.0 c.loop-built.invariant.0 c.loop-built-test.true c.row_at.ensures row.0 row.2 c.kept-built.ensures in
-    (next.2, next.1, omega arith, omega arith)
-
--- ---- the finish
 pub returns : goal.returns
-returns c = rw c.finish.ensures (finished c.requires.0 c.loop-built.invariant.0 c.loop-built.invariant.1 c.loop-built-test.false)
+returns c =
+    let i : c.loop-i.i ≡ c.args.card.header.decimation.source.height = omega arith in
+    let done = finished c.args.card.accepted (rw i at c.loop-i.invariant.built) in
+    record { table = rw (c.finish.ensures, c.read.ensures) done.table; filled = search (rules, done.filled) }

@@ -1,32 +1,32 @@
 -- `report::run::report` meets its contract.
 -- Assumes nothing.
-use Rattle.refusal.proofs.Chains.{never}
-use Rattle.report.proofs.Sizes.{front_inside, front_length, zeros_length, sizes, emptied_table}
+use Rattle.std.proofs.Common.{◌≡◌, refl, Err, arith, rules}
+use Rattle.report.proofs.Sizes.{front_inside, front_length, filled_length, sizes, emptied_table}
 use Rattle.report.proofs.Building.{table_filled}
-use Rattle.report.proofs.Reported.{report_printed}
+use Rattle.report.proofs.Reported.{report_whole, printed_refused}
 use Rattle.report.proofs.run.report.Goals as goal
 
 pub slice_bounds-table-end : goal.slice_bounds-table-end
 slice_bounds-table-end c =
-    rw c.payload_len-len.ensures (front_inside (zeros_length 8192 c.table_buffer-table.ensures) (sizes c.requires).few)
+    rw c.payload_len.ensures (front_inside (filled_length 8192 _ c.filled-table.ensures) (sizes c.in_ok-card.card.accepted).few)
 
 pub slice_bounds-table-end-2 : goal.slice_bounds-table-end-2
 slice_bounds-table-end-2 c =
-    rw c.payload_len-len.ensures (front_length _ (zeros_length 8192 c.table_buffer-table.ensures) (sizes c.requires).few)
+    rw c.payload_len.ensures (front_length _ (filled_length 8192 _ c.filled-table.ensures) (sizes c.in_ok-card.card.accepted).few)
 
-pub build-built-requires : goal.build-built-requires
-build-built-requires c =
-    (c.requires, emptied_table c.requires c.table_buffer-table.ensures c.payload_len-len.ensures)
+pub build-requires : goal.build-requires
+build-requires c = emptied_table c.in_ok-card.card.accepted c.filled-table.ensures c.payload_len.ensures
 
 pub put_circles-requires : goal.put_circles-requires
 put_circles-requires c =
-    (c.requires, rw c.build-built.ensures.filled (table_filled c.requires))
+    record { whole = rw c.in_ok-built.ensures.filled (table_filled c.in_ok-card.card.accepted); placed = omega (arith, c.put_summary.ensures.laid.next) }
 
-pub returns-in-Finished : goal.returns-in-Finished
-returns-in-Finished c =
-    let put-circles = c.put_circles.ensures in
-    report_printed c.requires (rw c.in-Finished.is at c.build-built.ensures) c.put_summary-at.ensures put-circles
+pub returns-in_err-card-clause-left : goal.returns-in_err-card-clause-left
+returns-in_err-card-clause-left c =
+    let e : c.from_residual.result ≡ Err c.in_err-card.field-0.0 = search rules in
+    rw e (refl, printed_refused _ _ c.in_err-card.ensures)
 
-pub returns-in-Refused : goal.returns-in-Refused
-returns-in-Refused c =
-    never (rw c.in-Refused.is at c.build-built.ensures.table)
+pub returns-clause-laid : goal.returns-clause-laid
+returns-clause-laid c =
+    report_whole c.in_ok-card.ensures.0 c.in_ok-card.ensures.1 c.in_ok-card.card.accepted c.in_ok-built.ensures c.put_summary.ensures
+    c.put_circles.ensures

@@ -1,0 +1,15 @@
+// Buffers that serve every card: its source table has at most 8,192 places, so its width and height are below 1,024.
+ghost use Rattle.std.specs.Prelude.{◌≡◌, replicate};
+
+// As many as a row, and as the rows.
+pub(crate) const WIDEST: usize = 1024;
+
+// The places of a table.
+pub(crate) const PLACES: usize = 8192;
+
+// So many of one value.
+pub(crate) fn filled<T: Copy, const N: usize>(x: T) -> [T; N]
+    ensures { result ≡ replicate N x }
+{
+    [x; N]
+}
