@@ -18,6 +18,7 @@ pub struct Decimation {
     pub grid: Grid,
 }
 
+// (d) Source and factor stay two arguments until both are tested; then `Decimation` holds them.
 fn is_off_factor(source: Grid, factor: u32) -> bool
     ensures { result ≡ off_factor source factor }
 {

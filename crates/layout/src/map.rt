@@ -13,6 +13,7 @@ use grid::Grid;
 use refusal::{Refusal, refuse_if};
 
 // The checks of either call.
+// (d) Grid, rows and blocks stay three arguments: one call writes what the other reads.
 #[tactic(auto, using(grid::proofs::Valid::grid_sized, crate::proofs::Rows::row_length_fits), unfolding(crate::specs::Map::map_refusal))]
 fn check(grid: Grid, rows: &[f64], blocks: &[f64]) -> Result<(), Refusal>
     ensures { number_in result ≡ map_refusal grid rows.now blocks.now }

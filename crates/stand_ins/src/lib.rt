@@ -16,7 +16,7 @@ pub const PI: f64 = 3.141592653589793;
 
 // How many turns a series takes: all, but at 0 a few, which give what all give. So the compiler does not know the number, and the
 // program works each divisor out from k: docs/DECISIONS.md, 'Divisors from k'.
-fn turns(x: f64, few: u32, all: u32) -> u32
+fn turns(x: f64, few: u8, all: u8) -> u8
     requires { (0 < few) × (few ≤ all) }
     ensures { (result ≡ cond (eq x f64zero) few all) × (0 < result) × (result ≤ all) }
 {
@@ -27,7 +27,7 @@ fn turns(x: f64, few: u32, all: u32) -> u32
 }
 
 // A series from its last term inward: s after the turns from, from − 1, .., 1.
-fn downward<T, F: Fn(u32, T) -> T>(turn: F, from: u32, seed: T) -> T
+fn downward<T, F: Fn(u8, T) -> T>(turn: F, from: u8, seed: T) -> T
     requires { (k : ℕ) (s : T) → 0 < k → k ≤ from → F.pre turn k s }
     ensures { (by : ℕ → T → T) → IsTurn (F.post turn) by → result ≡ downward by from seed }
 {
@@ -40,11 +40,11 @@ fn downward<T, F: Fn(u32, T) -> T>(turn: F, from: u32, seed: T) -> T
 
 // One turn of the sine.
 #[tactic(auto, unfolding(crate::specs::StandIns::sine_term))]
-fn sine_term(z: f64, k: u32, s: f64) -> f64
-    requires { k ≤ 15 }
+fn sine_term(z: f64, k: u8, s: f64) -> f64
     ensures { result ≡ sine_term z k s }
 {
-    1.0 - z / ((2 * k * (2 * k + 1)) as f64) * s
+    let n = k as u32;
+    1.0 - z / ((2 * n * (2 * n + 1)) as f64) * s
 }
 
 pub fn sin(x: f64) -> f64
@@ -56,11 +56,12 @@ pub fn sin(x: f64) -> f64
 
 // One turn of the cosine.
 #[tactic(auto, unfolding(crate::specs::StandIns::cosine_term))]
-fn cosine_term(z: f64, k: u32, c: f64) -> f64
-    requires { (0 < k) × (k ≤ 15) }
+fn cosine_term(z: f64, k: u8, c: f64) -> f64
+    requires { 0 < k }
     ensures { result ≡ cosine_term z k c }
 {
-    1.0 - z / (((2 * k - 1) * (2 * k)) as f64) * c
+    let n = k as u32;
+    1.0 - z / (((2 * n - 1) * (2 * n)) as f64) * c
 }
 
 pub fn cos(x: f64) -> f64
@@ -71,25 +72,23 @@ pub fn cos(x: f64) -> f64
 }
 
 // The arctangent's reciprocal for k.
-fn reciprocal(k: u32) -> f64
-    requires { k ≤ 15 }
+fn reciprocal(k: u8) -> f64
     ensures { result ≡ div binary64 f64one (f64of (2 * k + 1)) }
 {
-    1.0 / ((2 * k + 1) as f64)
+    1.0 / ((2 * k as u32 + 1) as f64)
 }
 
 // One turn of the arctangent.
 #[tactic(auto, unfolding(crate::specs::StandIns::arctan_term))]
-fn arctan_term(w: f64, k: u32, a: f64) -> f64
-    requires { k ≤ 15 }
+fn arctan_term(w: f64, k: u8, a: f64) -> f64
     ensures { result ≡ arctan_term w k a }
 {
     reciprocal(k) - w * a
 }
 
 // The arctangent's series in the square of the tangent, from k = top down to 0.
-fn arctan_series(w: f64, top: u32) -> f64
-    requires { (0 < top) × (top ≤ 15) }
+fn arctan_series(w: f64, top: u8) -> f64
+    requires { 0 < top }
     ensures { result ≡ arctan_term w 0 (downward (arctan_term w) (top - 1) (div binary64 f64one (f64of (2 * top + 1)))) }
 {
     let a = downward(|k, a| arctan_term(w, k, a), top - 1, reciprocal(top));

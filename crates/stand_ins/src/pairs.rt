@@ -20,7 +20,7 @@ const ONES: Pair = Pair {
 };
 
 // How many turns two series take in one loop: a few where both are at 0, as `turns` has it for one.
-fn pair_turns(x: f64, y: f64, few: u32, all: u32) -> u32
+fn pair_turns(x: f64, y: f64, few: u8, all: u8) -> u8
     requires { few ≤ all }
     ensures { (result ≡ cond (eq x f64zero && eq y f64zero) few all) × (result ≤ all) }
 {

@@ -2,7 +2,7 @@
 // not fit is dropped, and the page's place goes on behind the whole line.
 #![tactic(auto)]
 
-ghost use Rattle.std.specs.Prelude.{◌++◌};
+ghost use Rattle.std.specs.Prelude.{[], ◌∷◌, ◌++◌};
 ghost use Rattle.digits.specs.Digits.{decimal, space};
 ghost use Rattle.digits.specs.Laid.{Lays};
 ghost use Rattle.text.specs.Text.{circle_word, refused_line, rows_line, cells_line, total_line, circle_line, circle_refused_line};
@@ -10,27 +10,34 @@ ghost use Rattle.text.specs.Text.{circle_word, refused_line, rows_line, cells_li
 use digits::{NEWLINE, Page, SPACE};
 use raster::CellTallies;
 
+// A word, a number and a byte after it.
+fn put_named(page: &mut Page, word: &[u8], n: u32, after: u8)
+    ensures { Lays page.old (word.now ++ (decimal n ++ (after ∷ []))) page.new }
+{
+    page.put_bytes(word);
+    page.put_number(n as u64, after);
+}
+
 // `circle`, the index and a space.
 fn put_circle(page: &mut Page, i: u32)
     ensures { Lays page.old (circle_word ++ decimal i ++ space) page.new }
 {
-    page.put_bytes(b"circle ");
-    page.put_number(i as u64, SPACE);
+    put_named(page, b"circle ", i, SPACE);
 }
 
 // (a) The refusal by its number: the type Refusal would ask more of callers, and this call prints any number.
+#[tactic(auto, unfolding(crate::specs::Text::refused_line))]
 pub fn refused_line(page: &mut Page, n: u32)
     ensures { Lays page.old (refused_line n) page.new }
 {
-    page.put_bytes(b"refused ");
-    page.put_number(n as u64, NEWLINE);
+    put_named(page, b"refused ", n, NEWLINE);
 }
 
+#[tactic(auto, unfolding(crate::specs::Text::rows_line))]
 pub fn rows_line(page: &mut Page, height: u32)
     ensures { Lays page.old (rows_line height) page.new }
 {
-    page.put_bytes(b"rows ");
-    page.put_number(height as u64, NEWLINE);
+    put_named(page, b"rows ", height, NEWLINE);
 }
 
 pub fn cells_line(page: &mut Page, t: CellTallies)

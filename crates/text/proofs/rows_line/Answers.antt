@@ -1,9 +1,0 @@
--- `text::rows_line` meets its contract.
--- Assumes nothing.
-use Rattle.digits.proofs.Laying.{lays_then}
-use Rattle.text.specs.Text.{rows_line}
-use Rattle.text.proofs.rows_line.Goals as goal
-
-pub returns : goal.returns
-unfolding rows_line
-returns c = lays_then c.put_bytes.ensures c.put_number.ensures
