@@ -82,6 +82,7 @@ impl<'a> Page<'a> {
     }
 
     // The digits of n, the most significant first: at least so many, so `0` is in front of another only where n has fewer.
+    // (c) The base is no const parameter: tried, and the goal that the check then makes of the recursion does not fit the code.
     fn put_digits(&mut self, base: u64, least: usize, n: u64)
         requires { (1 < base) × (base ≤ 16) }
         ensures decimal { base ≡ 10 → least ≤ 1 → Lays self.old (decimal n) self.new }

@@ -89,12 +89,12 @@ module _ (w h : ℕ) where
   mapped_end rows dst size at l = blocks_end w (payload_length w h) _ dst size at l
 
   -- a cell of the row layout is in one of its rows
-  pub row_on : (at r c : ℕ) → row_cell_at w r c ≡ at → c ≤ w → at < row_length w h → r ≤ h
-  row_on at r c e k l = rw (← e, row_of_row_cell w r c k) at (row_row_inside w h at l)
+  pub row_on : (at r c l : ℕ) → row_cell_at w r c ≡ at → c ≤ w → at < l → l ≡ row_length w h → r ≤ h
+  row_on at r c l e k i s = rw (← e, row_of_row_cell w r c k) at (row_row_inside w h at (rw s at i))
 
   -- and has a place in blocks
-  pub row_within : (at r c n : ℕ) → row_cell_at w r c ≡ at → c ≤ w → at < row_length w h → n ≡ payload_length w h → cell_at w r c < n
-  row_within at r c n e k l s = rw s (cell_inside w h r c (row_on at r c e k l) k)
+  pub row_within : (at r c l n : ℕ) → row_cell_at w r c ≡ at → c ≤ w → at < l → l ≡ row_length w h → n ≡ payload_length w h → cell_at w r c < n
+  row_within at r c l n e k i s t = rw t (cell_inside w h r c (row_on at r c l e k i s) k)
 
   module _ (blocks dst : List Float) (size : length dst ≡ row_length w h) where
     pub row_turn : (at r c : ℕ) (x : Float) → row_cell_at w r c ≡ at → c ≤ w → at < row_length w h → x ≡ corner w blocks r c

@@ -40,6 +40,7 @@ fn padded(grid: Grid, rows: &[f64], cell: TableCell) -> f64
 }
 
 // (d) not one function with `fill_rows`: they differ in the order, the source and what is past the edge, and share a `for`.
+#[tactic(auto, using(crate::proofs::Places::first_place, crate::proofs::Places::first_inside, crate::proofs::Places::row_before, crate::proofs::Maps::mapped_turn, crate::proofs::Maps::mapped_end))]
 fn fill_blocks(grid: Grid, rows: &[f64], blocks: &mut [f64])
     requires { Sized grid (length rows.now) (length blocks.old) }
     ensures { blocks.new ≡ to_blocks grid.width grid.height rows.now }
@@ -51,6 +52,7 @@ fn fill_blocks(grid: Grid, rows: &[f64], blocks: &mut [f64])
     }
 }
 
+#[tactic(auto, using(crate::proofs::Rows::first_row_place, crate::proofs::Maps::row_within, crate::proofs::Maps::row_on, crate::proofs::Maps::row_turn, crate::proofs::Maps::row_end), unfolding(crate::specs::Place::corner))]
 fn fill_rows(grid: Grid, blocks: &[f64], rows: &mut [f64])
     requires { Sized grid (length rows.old) (length blocks.now) }
     ensures { rows.new ≡ to_rows grid.width grid.height blocks.now }

@@ -27,6 +27,7 @@ impl TableCell {
 }
 
 // The place of the cell in a table row and a table column. Below 2^32 of each every place fits.
+#[tactic(auto, using(crate::proofs::Places::place_fits))]
 pub fn cell_at(width: u32, row: u32, col: u32) -> usize
     ensures { result ≡ cell_at width row col }
 {
@@ -47,6 +48,7 @@ pub fn run_at(col: u32) -> usize
 }
 
 // How many places a table over the grid has, or the largest usize where it has more, past any grid's.
+#[tactic(auto, using(crate::proofs::Places::blocks_fit, crate::proofs::Places::length_most))]
 pub fn payload_len(grid: Grid) -> usize
     ensures { result ≡ min (payload_length grid.width grid.height) 0xffff_ffff_ffff_ffff }
 {

@@ -19,6 +19,7 @@ fn clear(table: &mut [f64], at: usize)
 }
 
 // A table row from a column on, to the end of its last block.
+#[tactic(auto, using(crate::proofs::Places::few_blocks, crate::proofs::Places::row_spans, crate::proofs::Cleared::clear_start, crate::proofs::Cleared::clear_turn, crate::proofs::Cleared::clear_end))]
 fn clear_from(table: &mut [f64], width: u32, row: usize, from: usize)
     requires { (cell_at width row 0 < 0x2000_0000_0000_0000) × (from ≤ blocks_over width * 8) }
     ensures { table.new ≡ cleared_from width table.old row from }

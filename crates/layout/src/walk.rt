@@ -36,6 +36,7 @@ impl TableCell {
     }
 
     // The cell behind it in row layout.
+    #[tactic(auto, using(crate::proofs::Rows::behind_in_row, crate::proofs::Rows::behind_row))]
     pub(crate) fn next_in_row(self, width: u32) -> TableCell
         requires { (self.col ≤ width) × (self.row ≤ 0xffff_ffff) }
         ensures { (row_cell_at width result.row result.col ≡ suc (row_cell_at width self.row self.col)) × (result.col ≤ width) }

@@ -2,11 +2,11 @@
 use mathlib.Core.Path.{◌≡◌, refl, sym, subst, ap, ◌∙◌}
 use mathlib.Core.Bool.{true}
 use mathlib.Core.List.{List}
-use Prim.Native.Nat.{ℕ, zero, suc, ◌+◌, ◌-◌, ◌*◌, ◌≤◌, ◌<◌}
+use Prim.Native.Nat.{ℕ, zero, suc, ◌+◌, ◌*◌, ◌≤◌, ◌<◌}
 use native.Mathlib.Numerals.{add-one}
 use native.Mathlib.Omega.{arith}
 use lib.ListN.{length, length-replicate}
-use Rattle.refusal.specs.Refusal.{Outcome, answered, refused, passed}
+use Rattle.refusal.specs.Refusal.{answered, refused, passed}
 use Rattle.refusal.proofs.Chains.{never, answered_same}
 use Rattle.raster.specs.Raster.{cells_of}
 use Rattle.grid.specs.declared.Grid.{Grid}

@@ -1,10 +1,10 @@
 // Buffers that serve every card: its source table has at most 8,192 places, so its width and height are below 1,024.
 ghost use Rattle.std.specs.Prelude.{◌≡◌, replicate};
 
-// As many as a row, and as the rows.
+// Room for a row of any card and a column before it, and for a half-width of each row.
 pub(crate) const WIDEST: usize = 1024;
 
-// The places of a table.
+// The most places of a table.
 pub(crate) const PLACES: usize = 8192;
 
 // So many of one value.

@@ -18,7 +18,7 @@ fn put_circle(page: &mut Page, i: u32)
     page.put_number(i as u64, SPACE);
 }
 
-// (d) The refusal by its number: the type Refusal would leave out the numbers that no refusal has.
+// (a) The refusal by its number: the type Refusal would ask more of callers, and this call prints any number.
 pub fn refused_line(page: &mut Page, n: u32)
     ensures { Lays page.old (refused_line n) page.new }
 {

@@ -1,11 +1,8 @@
 -- `layout::place::payload_len` meets its contract.
 -- Assumes nothing.
 use native.Mathlib.Omega.{arith}
-use Rattle.layout.proofs.Places.{blocks_fit, length_most}
+use Rattle.layout.proofs.Places.{blocks_fit}
 use Rattle.layout.proofs.place.payload_len.Goals as goal
 
 pub overflow_mul-blocks : goal.overflow_mul-blocks
 overflow_mul-blocks c = omega (arith, blocks_fit _ _ _ _ c.blocks_over.ensures c.blocks_over-2.ensures (omega arith) (omega arith))
-
-pub returns : goal.returns
-returns c = rw c.saturating_mul.ensures (length_most _ _ _ _ c.blocks_over.ensures c.blocks_over-2.ensures)
