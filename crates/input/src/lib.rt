@@ -19,6 +19,7 @@ pub fn read_full<R: Read>(input: &mut R, bytes: &mut [u8]) -> Result<usize, Read
     ensures fits { IfOk result (λ n. n ≤ length bytes.new) }
     ensures failed { IfErr result (λ f. f.read ≤ length bytes.new) }
     ensures front { IfOk result (λ n. Consumes (R.remaining input.old) (R.remaining input.new) (take n bytes.new)) }
+    ensures failed_front { IfErr result (λ f. Consumes (R.remaining input.old) (R.remaining input.new) (take f.read bytes.new)) }
     ensures end { IfOk result (λ n. n < length bytes.new → IsAtEnd (R.remaining input.new)) }
 {
     // (d) no `for` counts here: each turn goes on by as many bytes as the reader gave.
