@@ -6,24 +6,25 @@ use Prim.Native.Nat.{ℕ, zero, suc, ◌+◌, ◌/◌, ◌%◌}
 use native.Mathlib.Numerals.{add-one}
 use borrow.Author.Tests.{eq-eqb, ne_eqb}
 use lib.Dec.{eqb}
-use lib.ListN.{length}
+use lib.ListN.{length, replicate}
 use lib.Ieee.{Float}
-use Rattle.refusal.proofs.Chains.{never, refused_as}
+use Rattle.refusal.proofs.Chains.{refused_by, never, answered_passed, left_alone, refused_as}
 use Rattle.refusal.specs.declared.Refusal.{Refusal}
-use Rattle.refusal.specs.Refusal.{answered, refused, first, passed, outcome, unless_refused, not_its_makers, number_of}
+use Rattle.refusal.specs.Refusal.{Outcome, answered, refused, first, passed, outcome, unless_refused, not_its_makers, number_of}
 use Rattle.digest.specs.Digest.{first_digest, digest_of}
 use Rattle.raster.specs.declared.CellTallies.{CellTallies}
 use Rattle.raster.specs.Raster.{sanitised_row, row_tallies, plus_tallies, held_tallies, no_tallies}
 use Rattle.grid.specs.declared.Grid.{Grid}
 use Rattle.grid.specs.Grid.{valid_grid}
-use Rattle.layout.specs.Written.{laid_row}
+use Rattle.float.specs.Float.{f64zero}
+use Rattle.layout.specs.Written.{cleared_table, laid_row}
 use Rattle.decimation.specs.declared.Decimation.{Decimation}
 use Rattle.decimation.specs.Decimation.{factor_refusal, decimation_new, valid_decimation}
 use Rattle.decimation.proofs.Factors.{Made, decimation_made}
 use Rattle.sweep.specs.Sweep.{acc_after, corr_after}
 use Rattle.builder.specs.declared.Builder.{Builder}
 use Rattle.builder.specs.Rows.{coarse_filled, handed_on}
-use Rattle.builder.specs.Build.{Lengths, Buffers, buffers, lengths_of, lent_refusal, start_refusal, first_builder, row_refusal}
+use Rattle.builder.specs.Build.{Lengths, Buffers, buffers, lengths_of, lent_refusal, start_refusal, first_builder, cleared_buffers, start_call, row_refusal}
 use Rattle.builder.specs.Build.{builder_after, coarse_after, table_after, buffers_after, row_call, row_left}
 use Rattle.builder.proofs.Builders.{start_goes_on, row_passed}
 use Rattle.builder.proofs.Kept.{tallies_fit}
@@ -106,3 +107,31 @@ module _ (b : Builder) (acc coarse table : List Float) where
   not_handed_on h =
       let q : eqb (suc b.rows % b.decimation.factor) 0 ≡ false = ne_eqb _ 0 (rw (add-one b.rows) at h) in
       rw q (refl, refl)
+
+-- o being what the lengths give
+module _ (g : Grid) (k nodata : ℕ) (m : Buffers) (o : Outcome Builder)
+    (e : o ≡ outcome (start_refusal g k (lengths_of m)) (first_builder g k nodata)) where
+  pub start_refused : (n : ℕ) → o ≡ refused n → (o ≡ (start_call g k nodata m).answer) × (m ≡ (start_call g k nodata m).buffers)
+  unfolding start_call
+  start_refused n r = (e, sym (left_alone (start_refusal g k (lengths_of m)) _ m (λ z. never (rw z at (sym r ∙ e)))))
+
+  module _ (b : Builder) (a : o ≡ answered b) where
+    is : (start_refusal g k (lengths_of m) ≡ 0) × (first_builder g k nodata ≡ b)
+    is = answered_passed (start_refusal g k (lengths_of m)) (first_builder g k nodata) b (sym e ∙ a)
+
+    pub started : (acc corr table : List Float)
+        → acc ≡ replicate (length m.acc) f64zero
+        → corr ≡ replicate (length m.corr) f64zero
+        → table ≡ cleared_table b.decimation.grid.width b.decimation.grid.height m.table
+        → (answered b ≡ (start_call g k nodata m).answer) × (buffers acc corr m.coarse table ≡ (start_call g k nodata m).buffers)
+    unfolding start_call first_builder cleared_buffers
+    started acc corr table ea ec et =
+        let own = ap (λ (x : Builder). x.decimation.grid) is.1 in
+        (sym a ∙ e, rw (is.0, own, et, ea, ec))
+
+-- n being the number that a row's checks give
+module _ (b : Builder) (row : List ℕ) (m : Buffers) (n : ℕ) (e : n ≡ row_refusal b (length row) (lengths_of m)) where
+  pub row_refused : (n ≡ 0 → ⊥) → (refused n ≡ (row_call b row m).answer) × (row ≡ row_left b row m) × (m ≡ (row_call b row m).buffers)
+  unfolding row_call row_left
+  row_refused h =
+      rw (← e) (refused_by n (builder_after b row) h, sym (left_alone n (sanitised_row b.nodata row) row h), sym (left_alone n (buffers_after b row m) m h))

@@ -2,15 +2,10 @@
 // What could not be read or written is said on standard error, and then the exit status is 1.
 #![tactic(auto)]
 
+use report::{CARD_SPACE, TEXT_SPACE};
 use std::io;
 use std::io::Write;
 use std::process::ExitCode;
-
-// A byte more than a card may have is enough to see that it is too long.
-const CARD: usize = 65537;
-
-// No card's text is longer.
-const TEXT: usize = 139333;
 
 // A word on standard error that cannot be written is dropped: the status tells as much.
 fn fail(rt: &impl Eprint, what: &str, e: io::Error) -> ExitCode {
@@ -19,8 +14,8 @@ fn fail(rt: &impl Eprint, what: &str, e: io::Error) -> ExitCode {
 }
 
 fn main(rt: HostRuntime) -> ExitCode {
-    let mut bytes = [0; CARD];
-    let mut text = [0; TEXT];
+    let mut bytes = [0; CARD_SPACE];
+    let mut text = [0; TEXT_SPACE];
     let read = match input::read_full(&mut rt.stdin(), &mut bytes) {
         Ok(read) => read,
         Err(failed) => return fail(&rt, "the card cannot be read", failed.error),

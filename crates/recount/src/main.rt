@@ -2,24 +2,19 @@
 // reference/README.md has the list.
 #![tactic(auto)]
 
+use report::{CARD_SPACE, TEXT_SPACE};
 use std::io::Write;
 use std::rt::Files;
 use std::{fs, io};
 
 const CARDS: u8 = 67;
 
-// A byte more than a card may have, as `count` reads.
-const CARD: usize = 65537;
-
-// No card's text is longer.
-const TEXT: usize = 139333;
-
 // A card that cannot be opened is said on standard error, and the next one is counted.
 fn one_card<R: Files + Print + Eprint>(
     rt: &R,
     i: u8,
-    bytes: &mut [u8; CARD],
-    text: &mut [u8; TEXT],
+    bytes: &mut [u8; CARD_SPACE],
+    text: &mut [u8; TEXT_SPACE],
 ) -> io::Result<()> {
     let digits = [b'0' + i % 100 / 10, b'0' + i % 10];
     let name = str::from_utf8(&digits).unwrap();
@@ -35,8 +30,8 @@ fn one_card<R: Files + Print + Eprint>(
 }
 
 fn main(rt: HostRuntime) -> io::Result<()> {
-    let mut bytes = [0; CARD];
-    let mut text = [0; TEXT];
+    let mut bytes = [0; CARD_SPACE];
+    let mut text = [0; TEXT_SPACE];
     for i in 0..CARDS {
         one_card(&rt, i, &mut bytes, &mut text)?;
     }

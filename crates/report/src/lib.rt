@@ -8,3 +8,9 @@ mod lines;
 mod run;
 
 pub use run::answer;
+
+// A byte more than a card may have is enough to see that it is too long.
+pub const CARD_SPACE: usize = 65537;
+
+// No card's text is longer.
+pub const TEXT_SPACE: usize = 139333;
