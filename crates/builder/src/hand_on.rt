@@ -25,6 +25,7 @@ fn fill_coarse(coarse: &mut [f64], acc: &[f64], factor: usize)
 
 // The row handed on: the accumulator itself at factor 1, else the coarse row. A prefix sum over blocks and one over
 // cells agree at every block's corner, so nothing is summed again.
+// (a) Document 01 asks for a part of one of two lent slices.
 #[tactic(auto, unfolding(crate::specs::Rows::handed_on))]
 fn decimated<'a>(acc: &'a [f64], coarse: &'a [f64], factor: usize, n: usize) -> &'a [f64]
     requires { (n ≤ length acc.now) × (n ≤ length coarse.now) }

@@ -12,9 +12,6 @@ use refusal::{Refusal, refuse_if};
 #[derive(Clone, Copy)]
 pub struct RadiusKm(pub f64);
 
-// f64::MAX
-const LARGEST: f64 = 1.7976931348623157e308;
-
 // The checks of a radius.
 #[tactic(auto, unfolding(crate::specs::Radius::radius_refusal))]
 fn check(km: f64) -> Result<(), Refusal>
@@ -33,7 +30,7 @@ fn widened(km: f64, more: f64) -> f64
     if float::is_finite(w) {
         return float::max(w, km);
     }
-    LARGEST
+    f64::MAX
 }
 
 impl RadiusKm {

@@ -38,6 +38,7 @@ impl<'a> Lines<'a> {
     }
 
     // Columns west to east, both in; where west is past east, two pieces that meet at the seam.
+    // (d) West and east stay two: they are the fields of `ColSpan::Through`, which the match took apart.
     fn through(self, width: u32, west: Col, east: Col) -> f64
         requires { (self.top ≤ self.bottom) × (west.0 < width) × (east.0 < width) × (self.bottom + run_at width < length self.cells.now) }
         ensures { result ≡ rectangle_sum width (line_cells self.entry) 0 0 (Through west east) }
