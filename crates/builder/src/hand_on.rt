@@ -62,7 +62,7 @@ fn emit(dst: &mut [f64], src: &[f64])
 }
 
 // A row is written over the cells of a table row: the table is lent from the first of them on.
-#[tactic(auto, using(crate::proofs::Laid::laid_row_lem, crate::proofs::Laid::run_inside))]
+#[tactic(auto, using(crate::proofs::Laid::laid_row_lem, crate::proofs::Laid::run_inside, crate::proofs::Laid::starts_inside))]
 pub(crate) fn lay(table: &mut [f64], grid: Grid, at: u32, row: &[f64])
     requires { RowRoom grid at (length row.now) (length table.old) }
     ensures { table.new ≡ laid_row grid.width table.old at row.now }

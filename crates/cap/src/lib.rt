@@ -151,6 +151,7 @@ impl CapTerms {
 
     // Up from start while the next column is in.
     // (a) Document 01 asks for a loop that yields its value by break, here and in `walk_down`.
+    #[tactic(auto, using(crate::proofs::Steps::climb_turn, crate::proofs::Steps::climb_out, crate::proofs::Steps::climb_end))]
     fn walk_up(self, row: RowTerms, start: u32) -> u32
         requires { start ≤ self.closing }
         ensures { result ≡ climbed (contained_by self row) self.closing start }
@@ -168,6 +169,7 @@ impl CapTerms {
     }
 
     // Down from start until a column is in, or to 0.
+    #[tactic(auto, using(crate::proofs::Steps::descend_turn, crate::proofs::Steps::descend_in, crate::proofs::Steps::descend_end))]
     fn walk_down(self, row: RowTerms, start: u32) -> u32
         ensures { result ≡ descended (contained_by self row) start }
     {

@@ -21,12 +21,14 @@ fn bytes_at<const N: usize>(card: &[u8], at: usize) -> [u8; N]
     from_fn(|k| byte_at(card, at, k))
 }
 
+#[tactic(auto, using(crate::proofs::Bytes::u32_joined))]
 pub fn u32_at(card: &[u8], at: usize) -> u32
     ensures { result ≡ u32_at card.now at }
 {
     u32::from_le_bytes(bytes_at(card, at))
 }
 
+#[tactic(auto, using(crate::proofs::Bytes::u64_joined))]
 pub(crate) fn f64_at(card: &[u8], at: usize) -> f64
     ensures { result ≡ f64_at card.now at }
 {

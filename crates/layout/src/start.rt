@@ -30,6 +30,7 @@ fn clear_from(table: &mut [f64], width: u32, row: usize, from: usize)
 }
 
 // The column from which a start clears a table row.
+#[tactic(auto, using(crate::proofs::Cleared::first_kept, crate::proofs::Cleared::first_cleared_lem))]
 fn first_cleared(grid: Grid, row: usize) -> usize
     ensures { result ≡ first_cleared grid.width grid.height row }
 {

@@ -27,6 +27,7 @@ fn turns(x: f64, few: u8, all: u8) -> u8
 }
 
 // A series from its last term inward: s after the turns from, from − 1, .., 1.
+#[tactic(auto, using(crate::proofs::Laws::step))]
 fn downward<T, F: Fn(u8, T) -> T>(turn: F, from: u8, seed: T) -> T
     requires { (k : ℕ) (s : T) → 0 < k → k ≤ from → F.pre turn k s }
     ensures { (by : ℕ → T → T) → IsTurn (F.post turn) by → result ≡ downward by from seed }

@@ -24,6 +24,7 @@ impl<'a> Lines<'a> {
 
     // The columns `from` to the one before `to`, by the cells at the four corners. Where the south-east one is in the
     // table, so are the other three.
+    #[tactic(auto, using(layout::proofs::Places::runs_in_order), unfolding(crate::specs::Rectangle::box_sum))]
     fn box_sum(self, from: u32, to: u32) -> f64
         requires { (self.top ≤ self.bottom) × (from ≤ to) × (self.bottom + run_at to < length self.cells.now) }
         ensures { result ≡ box_sum (line_cells self.entry) 0 0 from to }
