@@ -14,7 +14,7 @@ fn byte_at(card: &[u8], at: usize, k: usize) -> u8
 }
 
 // N bytes from a place on.
-// (d) Card and place stay two arguments: a struct of both would say nothing of them, since a place may be past the end.
+// (d) Card and place stay two arguments: a place may be past the card's end, so a struct of both would promise nothing.
 fn bytes_at<const N: usize>(card: &[u8], at: usize) -> [u8; N]
     ensures { (k : ℕ) → k < N → slice_index result k ≡ slice_index card.now (at + k) }
 {

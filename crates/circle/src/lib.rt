@@ -22,7 +22,7 @@ struct Circle<'a> {
     centre: Col,
 }
 
-// The column so many cells before the centre's, on from the last where the first is passed. At most a turn, so no division.
+// The column so many cells before the centre's, on from the last where the first is passed. At most a turn, so no division: each row of a circle has two.
 #[tactic(auto, using(crate::proofs::Placed::back_before, crate::proofs::Placed::back_round))]
 fn column_back(width: u32, centre: Col, back: u32) -> Col
     requires { (centre.0 < width) × (back ≤ width) }

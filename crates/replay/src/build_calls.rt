@@ -85,6 +85,7 @@ fn builder(words: Words<'_>) -> Builder {
     }
 }
 
+// (d) One function for both answers: the words of a finish are those of a builder, and its total.
 fn put_builder(out: &mut Line<'_>, answer: Result<Builder, Refusal>, total: f64) {
     match answer {
         Ok(b) => {

@@ -27,6 +27,7 @@ enum Call {
 #[derive(Clone, Copy)]
 pub struct NoSuchCall;
 
+// (a) The numbers are those of reference/README.md, here and where a group has its own.
 impl TryFrom<u64> for Call {
     type Error = NoSuchCall;
 
