@@ -1,10 +1,8 @@
 // The sines or the cosines of two angles in one loop.
-ghost use Rattle.std.specs.Prelude.{◌≡◌, cond, ◌&&◌, ◌≤◌};
-ghost use Rattle.std.specs.Float.Ieee.{eq};
-ghost use Rattle.float.specs.Float.{f64zero};
+ghost use Rattle.std.specs.Prelude.{◌≡◌};
 ghost use Rattle.stand_ins.specs.StandIns.{sin_of, cos_of};
 
-use crate::{cosine_term, downward, sine_term};
+use crate::{cosine_term, downward, sine_term, turns};
 
 // Two sines or two cosines.
 #[derive(Clone, Copy)]
@@ -19,17 +17,6 @@ const ONES: Pair = Pair {
     second: 1.0,
 };
 
-// How many turns two series take in one loop: a few where both are at 0, as `turns` has it for one.
-fn pair_turns(x: f64, y: f64, few: u8, all: u8) -> u8
-    requires { few ≤ all }
-    ensures { (result ≡ cond (eq x f64zero && eq y f64zero) few all) × (result ≤ all) }
-{
-    if (x == 0.0) & (y == 0.0) {
-        return few;
-    }
-    all
-}
-
 // Both in one loop: they have the same divisors, and the processor divides two numbers in the time of one.
 pub fn sines(x: f64, y: f64) -> Pair
     ensures { (result.first ≡ sin_of x) × (result.second ≡ sin_of y) }
@@ -40,7 +27,7 @@ pub fn sines(x: f64, y: f64) -> Pair
         first: sine_term(z, k, s.first),
         second: sine_term(w, k, s.second),
     };
-    let s = downward(turn, pair_turns(x, y, 2, 10), ONES);
+    let s = downward(turn, turns((x == 0.0) & (y == 0.0), 2, 10), ONES);
     Pair {
         first: x * s.first,
         second: y * s.second,
@@ -56,5 +43,5 @@ pub fn cosines(x: f64, y: f64) -> Pair
         first: cosine_term(z, k, c.first),
         second: cosine_term(w, k, c.second),
     };
-    downward(turn, pair_turns(x, y, 1, 15), ONES)
+    downward(turn, turns((x == 0.0) & (y == 0.0), 1, 15), ONES)
 }

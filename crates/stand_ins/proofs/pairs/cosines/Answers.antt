@@ -12,5 +12,5 @@ returns c =
     let x = c.args.x in
     let y = c.args.y in
     let both = turns_of (cosine_term (mul binary64 x x)) (cosine_term (mul binary64 y y)) in
-    both_answers cosine_term (λ x c. c) cos_of 1 15 cosine_turns x y c.well_formed.0.1 c.well_formed.1.0.1 c.pair_turns.ensures.0
+    both_answers cosine_term (λ x c. c) cos_of 1 15 cosine_turns x y c.well_formed.0.1 c.well_formed.1.0.1 c.turns.ensures.0
     (c.downward.ensures both (λ k p r e. search rules))

@@ -12,5 +12,5 @@ returns c =
     let x = c.args.x in
     let y = c.args.y in
     let both = turns_of (sine_term (mul binary64 x x)) (sine_term (mul binary64 y y)) in
-    both_answers sine_term (mul binary64) sin_of 2 10 sine_turns x y c.well_formed.0.1 c.well_formed.1.0.1 c.pair_turns.ensures.0
+    both_answers sine_term (mul binary64) sin_of 2 10 sine_turns x y c.well_formed.0.1 c.well_formed.1.0.1 c.turns.ensures.0
     (c.downward-s.ensures both (λ k p r e. search rules))
