@@ -20,16 +20,22 @@ seconds : (t u : ℕ → Float → Float) (n : ℕ) (p : Pair) → (downward (tu
 seconds t u zero p = refl
 seconds t u (suc n) p = seconds t u n (turns_of t u (suc n) p)
 
+-- each of two series that run together from 1 gives what it gives alone
+pub each_alone : (t u : ℕ → Float → Float) {n m : ℕ} {p : Pair} → n ≡ m →
+    p ≡ downward (turns_of t u) n (record { first = f64one; second = f64one }) →
+    (p.first ≡ downward t m f64one) × (p.second ≡ downward u m f64one)
+each_alone t u by sum = (rw (sum, by, firsts) refl, rw (sum, by, seconds) refl)
+
 -- the answers of both, where a few turns are enough for each at 0: `sine_turns` and `cosine_turns` of stand_ins
 module _ (turn : Float → ℕ → Float → Float) (finish : Float → Float → Float) (answer : Float → Float) (few all : ℕ)
     (enough : (b : Bool) (x : Float) → fits binary64 x ≡ true → (b ≡ true → eq x f64zero ≡ true) →
     finish x (downward (turn (mul binary64 x x)) (cond b few all) f64one) ≡ answer x) where
-  pub both_answers : {n : ℕ} {p : Pair} (x y : Float) → fits binary64 x ≡ true → fits binary64 y ≡ true →
-      n ≡ cond (eq x f64zero && eq y f64zero) few all →
-      p ≡ downward (turns_of (turn (mul binary64 x x)) (turn (mul binary64 y y))) n (record { first = f64one; second = f64one }) →
+  pub both_answers : {p : Pair} (x y : Float) → fits binary64 x ≡ true → fits binary64 y ≡ true →
+      p.first ≡ downward (turn (mul binary64 x x)) (cond (eq x f64zero && eq y f64zero) few all) f64one →
+      p.second ≡ downward (turn (mul binary64 y y)) (cond (eq x f64zero && eq y f64zero) few all) f64one →
       (finish x p.first ≡ answer x) × (finish y p.second ≡ answer y)
-  both_answers x y h g by sum =
+  both_answers x y h g first second =
       let zeros = eq x f64zero && eq y f64zero in (
-        rw (sum, by, firsts) (enough zeros x h (λ e. (and_parts _ _ e).0)),
-        rw (sum, by, seconds) (enough zeros y g (λ e. (and_parts _ _ e).1)),
+        rw (first) (enough zeros x h (λ e. (and_parts _ _ e).0)),
+        rw (second) (enough zeros y g (λ e. (and_parts _ _ e).1)),
       )

@@ -3,8 +3,8 @@
 
 ghost use Rattle.std.specs.Prelude.{◌≡◌, cond, ℕ, ◌+◌, ◌-◌, ◌*◌, ◌<◌, ◌≤◌};
 ghost use Rattle.std.specs.Float.{binary64};
-ghost use Rattle.std.specs.Float.Ieee.{div, eq};
-ghost use Rattle.float.specs.Float.{f64zero, f64one, f64of};
+ghost use Rattle.std.specs.Float.Ieee.{div};
+ghost use Rattle.float.specs.Float.{f64one, f64of};
 ghost use Rattle.stand_ins.specs.StandIns.{IsTurn, downward, sine_term, sin_of, cosine_term, cos_of, arctan_term, halved as halved_of, arctan_of, atan2_of, acos_of};
 ghost use Rattle.stand_ins.specs.StandIns.{to_radians, to_degrees};
 
@@ -16,14 +16,11 @@ pub const PI: f64 = 3.141592653589793;
 
 // How many turns a series takes: all, but at 0 a few, which give what all give. So the compiler does not know the number, and the
 // program works each divisor out from k: docs/DECISIONS.md, 'Divisors from k'.
-fn turns(x: f64, few: u8, all: u8) -> u8
+fn turns(at_zero: bool, few: u8, all: u8) -> u8
     requires { (0 < few) × (few ≤ all) }
-    ensures { (result ≡ cond (eq x f64zero) few all) × (0 < result) × (result ≤ all) }
+    ensures { (result ≡ cond at_zero few all) × (0 < result) × (result ≤ all) }
 {
-    if x == 0.0 {
-        return few;
-    }
-    all
+    if at_zero { few } else { all }
 }
 
 // A series from its last term inward: s after the turns from, from − 1, .., 1.
@@ -52,7 +49,7 @@ pub fn sin(x: f64) -> f64
     ensures { result ≡ sin_of x }
 {
     let z = x * x;
-    x * downward(|k, s| sine_term(z, k, s), turns(x, 2, 10), 1.0)
+    x * downward(|k, s| sine_term(z, k, s), turns(x == 0.0, 2, 10), 1.0)
 }
 
 // One turn of the cosine.
@@ -69,7 +66,7 @@ pub fn cos(x: f64) -> f64
     ensures { result ≡ cos_of x }
 {
     let z = x * x;
-    downward(|k, c| cosine_term(z, k, c), turns(x, 1, 15), 1.0)
+    downward(|k, c| cosine_term(z, k, c), turns(x == 0.0, 1, 15), 1.0)
 }
 
 // The arctangent's reciprocal for k.
@@ -109,7 +106,7 @@ fn arctan(t: f64) -> f64
     ensures { result ≡ arctan_of t }
 {
     let u = halved(halved(t));
-    4.0 * (u * arctan_series(u * u, turns(t, 2, 10)))
+    4.0 * (u * arctan_series(u * u, turns(t == 0.0, 2, 10)))
 }
 
 // Close to the arctangent for y and x at least 0 and not both 0.
