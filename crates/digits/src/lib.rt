@@ -14,6 +14,8 @@ pub const NEWLINE: u8 = b'\n';
 
 // A lent slice, and the offset of what is laid next.
 // (d) No fmt::Write: what write! promises of the bytes holds only where it answers Ok, and nothing promises that it does.
+// (d) The offset stands beside the slice: it goes on past the slice's end, since a caller wants the whole text's length, which
+// the rest of the slice alone would not tell.
 #[derive(Drop)]
 pub struct Page<'a> {
     out: &'a mut [u8],
@@ -63,6 +65,7 @@ impl<'a> Page<'a> {
         self.at
     }
 
+    // (c) No `get_mut`: of a slice's element lent by it, a proof knows afterwards how long the slice is, and not what it holds.
     fn put_byte(&mut self, b: u8)
         ensures { Lays self.old (b ∷ []) self.new }
     {
