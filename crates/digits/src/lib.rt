@@ -14,8 +14,7 @@ pub const NEWLINE: u8 = b'\n';
 
 // A lent slice, and the offset of what is laid next.
 // (d) No fmt::Write: what write! promises of the bytes holds only where it answers Ok, and nothing promises that it does.
-// (d) The offset stands beside the slice: it goes on past the slice's end, since a caller wants the whole text's length, which
-// the rest of the slice alone would not tell.
+// (d) An offset beside the slice: it goes on past the end, since a caller wants the whole text's length; the rest alone can't say it.
 #[derive(Drop)]
 pub struct Page<'a> {
     out: &'a mut [u8],
