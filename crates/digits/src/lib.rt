@@ -64,7 +64,7 @@ impl<'a> Page<'a> {
         self.at
     }
 
-    // (c) No `get_mut`: of a slice's element lent by it, a proof knows afterwards how long the slice is, and not what it holds.
+    // (c) No `get_mut`: after a write through what it lends of a slice, a proof knows how long the slice is, and not what it holds.
     fn put_byte(&mut self, b: u8)
         ensures { Lays self.old (b ∷ []) self.new }
     {
@@ -84,7 +84,7 @@ impl<'a> Page<'a> {
     }
 
     // The digits of n, the most significant first: at least so many, so `0` is in front of another only where n has fewer.
-    // (c) The base is no const parameter: tried, and the goal that the check then makes of the recursion does not fit the code.
+    // (c) The base, only ever 10 or 16, is no const parameter: with one, rattle counts no proof that the inner call has fewer digits to lay.
     fn put_digits(&mut self, base: u64, least: usize, n: u64)
         requires { (1 < base) × (base ≤ 16) }
         ensures decimal { base ≡ 10 → least ≤ 1 → Lays self.old (decimal n) self.new }
