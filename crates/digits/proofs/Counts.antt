@@ -1,6 +1,6 @@
 -- A count is above -1 and below 2 ^ 64. Assumes nothing.
 use Rattle.std.proofs.Common.{◌≡◌, ℕ, ◌+◌, ◌*◌, ◌<◌, ◌≤◌, Bool, true, false, ◌&&◌, ◌||◌, T, ◌++◌, eqb, ltb, pos, sym, refl, subst, arith, ltb-true, lt-ltb, eqb-true}
-use mathlib.Core.Bool.{false≢true}
+use Rattle.std.proofs.lemmas.Bool.{and_parts, false_from_ne_true, false≢true}
 use lib.Ieee.{Float, nan, inf, fin, binary64, up, down, lt, le, eq, rem, of_bits, to_bits, to_unsigned}
 use lib.Ieee.Fits.{down_pos}
 use Rattle.float.specs.Float.{f64zero, f64one}
@@ -45,26 +45,18 @@ under (fin false m e) h = holds _ _ (less (m * up e) (down e) (down_pos e) (at_m
     less : (a d : ℕ) → 0 < d → a * 1 ≤ 1 * 9007199254740992 * d → a * 1 < 1 * 18446744073709551616 * d
     less a d p l = omega arith
 
-pieces : (a b c : Bool) → (a && b && c) ≡ true → (a ≡ true) × (b ≡ true)
-pieces true true c h = (refl, refl)
-pieces true false c h = absurd (false≢true h)
-pieces false b c h = absurd (false≢true h)
-
 pub count_fits : (x : Float) → is_count x ≡ true → T (lt (fin true 1 (pos 0)) x) × T (lt x (fin false 1 (pos 64)))
 unfolding is_count
 count_fits x h =
-    let p = pieces (le f64zero x) (le x f64p53) (eq (rem binary64 x f64one) f64zero) h in
-    (above x p.0, under x p.1)
+    let p = and_parts _ (eq (rem binary64 x f64one) f64zero) h in
+    let q = and_parts (le f64zero x) (le x f64p53) p.0 in
+    (above x q.0, under x q.1)
 
 pub count_above : (x : Float) → is_count x ≡ true → T (lt (fin true 1 (pos 0)) x)
 count_above x h = (count_fits x h).0
 
 pub count_below : (x : Float) → is_count x ≡ true → T (lt x (fin false 1 (pos 64)))
 count_below x h = (count_fits x h).1
-
-no_count : (b : Bool) → (b ≡ true → ⊥) → b ≡ false
-no_count true h = absurd (h refl)
-no_count false h = refl
 
 -- how a number is shown, by whether it is a count
 pub shown_count : (x : Float) → is_count x ≡ true → shown x ≡ decimal (to_unsigned 64 x)
@@ -73,4 +65,4 @@ shown_count x h = rw h
 
 pub shown_bits : (x : Float) → (is_count x ≡ true → ⊥) → shown x ≡ bits_word ++ hex_digits 16 (to_bits binary64 x)
 unfolding shown
-shown_bits x h = rw (no_count (is_count x) h)
+shown_bits x h = rw (false_from_ne_true (is_count x) h)

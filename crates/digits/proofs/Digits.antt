@@ -1,6 +1,6 @@
 -- Decimal and hex digits, one by one, and how many there are. Assumes nothing.
 use Rattle.std.proofs.Common.{◌≡◌, ℕ, zero, suc, ◌+◌, ◌-◌, ◌/◌, ◌%◌, ◌^◌, ◌<◌, ◌≤◌, Bool, true, false, ◌&&◌, ltb, List, [], ◌∷◌, ◌++◌, length, sym, refl, ap, pow-suc, add-one, sub-one, arith, length-append, ltb-false, ltb-true, le-ltb, lt-ltb}
-use mathlib.Core.Bool.{false≢true}
+use Rattle.std.proofs.lemmas.Bool.{and_parts}
 use Rattle.std.proofs.Math.Nat.{div-le_self, div-lt_self}
 use Rattle.digits.specs.Digits.{decimal, decimal_by, hex_digit, hex_digits}
 
@@ -50,12 +50,8 @@ hex_more (suc k) n h = rw (sub-one (suc k))
 
 -- ---- the digits in a base, at least so many: one alone, or those before the last and the last
 
-both : (a b : Bool) → a && b ≡ true → (a ≡ true) × (b ≡ true)
-both true b e = (refl, e)
-both false b e = absurd (false≢true e)
-
 pub one_left : (n base least : ℕ) → ltb n base && ltb least 2 ≡ true → (n < base) × (least < 2)
-one_left n base least e = let p = both (ltb n base) (ltb least 2) e in (ltb-true _ _ p.0, ltb-true _ _ p.1)
+one_left n base least e = let p = and_parts (ltb n base) (ltb least 2) e in (ltb-true _ _ p.0, ltb-true _ _ p.1)
 
 pub more_left : (n base least : ℕ) → ltb n base && ltb least 2 ≡ false → n < base → 2 ≤ least
 more_left n base least e h = let f : ltb least 2 ≡ false = rw (lt-ltb n base h) at e in ltb-false _ _ f

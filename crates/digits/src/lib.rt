@@ -14,6 +14,7 @@ pub const NEWLINE: u8 = b'\n';
 
 // A lent slice, and the offset of what is laid next.
 // (d) No fmt::Write: what write! promises of the bytes holds only where it answers Ok, and nothing promises that it does.
+// (d) An offset beside the slice: it goes on past the end, since a caller wants the whole text's length; the rest alone can't say it.
 #[derive(Drop)]
 pub struct Page<'a> {
     out: &'a mut [u8],
@@ -63,6 +64,7 @@ impl<'a> Page<'a> {
         self.at
     }
 
+    // (c) No `get_mut`: after a write through what it lends of a slice, a proof knows how long the slice is, and not what it holds.
     fn put_byte(&mut self, b: u8)
         ensures { Lays self.old (b ∷ []) self.new }
     {
@@ -82,7 +84,7 @@ impl<'a> Page<'a> {
     }
 
     // The digits of n, the most significant first: at least so many, so `0` is in front of another only where n has fewer.
-    // (c) The base is no const parameter: tried, and the goal that the check then makes of the recursion does not fit the code.
+    // (c) The base, only ever 10 or 16, is no const parameter: with one, rattle counts no proof that the inner call has fewer digits to lay.
     fn put_digits(&mut self, base: u64, least: usize, n: u64)
         requires { (1 < base) × (base ≤ 16) }
         ensures decimal { base ≡ 10 → least ≤ 1 → Lays self.old (decimal n) self.new }

@@ -12,6 +12,7 @@ use lib.IntN.{ℤ, pos}
 use lib.Ieee.{Float, nan, inf, fin, Format, binary32, hid, ones, lt, eq, is_nan, odd, of_fields, of_bits, to_bits, size, up, down}
 use lib.Ieee.Bits.{nan_bits_is, to_bits-of_bits}
 use lib.Ieee.Fits.{up_pos}
+use Rattle.std.proofs.lemmas.Bool.{or_parts}
 use Rattle.float.specs.Float.{f64zero}
 use Rattle.float.proofs.Patterns.{pattern_number, pattern_nan}
 use Rattle.raster.specs.Raster.{cell_value}
@@ -132,16 +133,12 @@ sided_fin false m e = (
   lt-ltb (0 * 1 * down e) (suc m * up e * 1) (omega (arith, pos_times m e, zero-mul (down e))),
 )
 
-or_false : (p q : Bool) → p || q ≡ false → (p ≡ false) × (q ≡ false)
-or_false true q e = absurd (false≢true (sym e))
-or_false false q e = (refl, e)
-
 module _ (b : ℕ) (h : b < 2 ^ 32) (test : zero_or_nan (b % 0x8000_0000) ≡ false) where
   some : b % 0x8000_0000 ≡ 0 → ⊥
-  some = eqb-false (b % 0x8000_0000) 0 (or_false (eqb (b % 0x8000_0000) 0) _ test).0
+  some = eqb-false (b % 0x8000_0000) 0 (or_parts (eqb (b % 0x8000_0000) 0) _ test).0
 
   few : b % 0x8000_0000 ≤ 0x7f80_0000
-  few = ltb-false 0x7f80_0000 (b % 0x8000_0000) (or_false (eqb (b % 0x8000_0000) 0) _ test).1
+  few = ltb-false 0x7f80_0000 (b % 0x8000_0000) (or_parts (eqb (b % 0x8000_0000) 0) _ test).1
 
   no_nan : is_nan (of_bits binary32 b) ≡ false
   no_nan = sym (nan_bits_is binary32 b) ∙ pattern_number binary32 b few

@@ -25,7 +25,7 @@ fn put_circle(page: &mut Page, i: u32)
     put_named(page, b"circle ", i, SPACE);
 }
 
-// (a) The refusal by its number: the type Refusal would ask more of callers, and this call prints any number.
+// (a) Here and in circle_refused_line the refusal by its number: the type Refusal would ask more of callers, and both print any number.
 #[tactic(auto, unfolding(crate::specs::Text::refused_line))]
 pub fn refused_line(page: &mut Page, n: u32)
     ensures { Lays page.old (refused_line n) page.new }

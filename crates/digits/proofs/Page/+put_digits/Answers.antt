@@ -1,8 +1,9 @@
 -- `digits::Page::put_digits` meets its contract.
 -- Assumes nothing.
-use Rattle.std.proofs.Common.{arith}
+use Rattle.std.proofs.Common.{ℕ, ◌<◌, ◌≤◌, arith}
 use Rattle.digits.proofs.Digits.{one_left, more_left, fewer_left, decimal_first, decimal_last, hex_last, hex_before}
 use Rattle.digits.proofs.Laying.{lays_then}
+use Rattle.digits.proofs.Page.+put_digits.Goals.{After-saturating_sub}
 use Rattle.digits.proofs.Page.+put_digits.Goals as goal
 
 pub returns-then-n-base-clause-decimal : goal.returns-then-n-base-clause-decimal
@@ -10,22 +11,25 @@ returns-then-n-base-clause-decimal t c e h =
     let one = one_left c.args.n c.args.base c.args.least c.if-n-base.true in
     rw (decimal_first c.args.n (omega arith), ← c.digit.ensures) c.put_byte.ensures
 
+-- where the digits before the last are laid first
+more : {t : ℕ} (c : After-saturating_sub t) → c.args.n < c.args.base → 2 ≤ c.args.least
+more c = more_left c.args.n c.args.base c.args.least c.if-n-base.false
+
 pub put_digits-requires : goal.put_digits-requires
 put_digits-requires t c =
-    let more = more_left c.args.n c.args.base c.args.least c.if-n-base.false in
-    let fewer = fewer_left c.args.n c.args.base c.args.least c.requires.0 more in
+    let fewer = fewer_left c.args.n c.args.base c.args.least c.requires.0 (more c) in
     (omega arith, c.requires)
 
 pub returns-clause-decimal : goal.returns-clause-decimal
 returns-clause-decimal t c e h =
-    let more = more_left c.args.n c.args.base c.args.least c.if-n-base.false in
-    rw (decimal_last c.args.n c.args.base c.args.least e more h, ← c.digit-2.ensures)
+    let several = more (goal.at.returns-clause-decimal t c).After-saturating_sub in
+    rw (decimal_last c.args.n c.args.base c.args.least e several h, ← c.digit-2.ensures)
     (lays_then (c.put_digits.ensures.decimal e (omega arith)) c.put_byte-2.ensures)
 
 pub returns-clause-hex : goal.returns-clause-hex
 returns-clause-hex t c e p h =
-    let more = more_left c.args.n c.args.base c.args.least c.if-n-base.false in
-    let before = hex_before c.args.least c.args.n c.args.base e h more p in
+    let several = more (goal.at.returns-clause-hex t c).After-saturating_sub in
+    let before = hex_before c.args.least c.args.n c.args.base e h several p in
     let laid = rw c.saturating_sub.ensures at (c.put_digits.ensures.hex e) in
     rw (hex_last c.args.least c.args.n c.args.base e p, ← c.digit-2.ensures)
     (lays_then (laid before.0 before.1) c.put_byte-2.ensures)
