@@ -2,7 +2,7 @@
 ghost use Rattle.std.specs.Prelude.{◌≡◌, ℕ, ◌+◌, ◌-◌, ◌*◌, ◌<◌, ◌≤◌, length};
 ghost use Rattle.layout.specs.Place.{run_at};
 ghost use Rattle.layout.specs.Written.{laid_row};
-ghost use Rattle.builder.specs.Rows.{sampled, coarse_filled, handed_on};
+ghost use Rattle.builder.specs.Rows.{coarse_filled, handed_on};
 ghost use Rattle.builder.specs.Build.{coarse_after, table_after};
 ghost use Rattle.builder.specs.private.Room.{Room, RowRoom};
 ghost use Rattle.builder.specs.private.Runs.{laid_runs, stored};

@@ -100,11 +100,11 @@ module _ (w h : ℕ) (t : List Float) where
       rw (length_blocks w (length t) _, add-one n)
       (blocks_same w (length t) _ _ (λ r c k l. rw (corner_blocks w (length t) _ r c k l) (row_more n r c _ refl (corner w t r c))))
 
-  pub rows_end : (n : ℕ) → n ≡ div_ceil (length t) (blocks_over w * 64) → rows_cleared (n * 8) ≡ cleared_table w h t
+  pub rows_end : (rows n b : ℕ) → rows ≡ n * 8 → b ≡ blocks_over w → n ≡ div_ceil (length t) (b * 64) → rows_cleared rows ≡ cleared_table w h t
   unfolding cleared_table
-  rows_end n e =
+  rows_end rows n b er eb e =
       blocks_same w (length t) _ _
-      (λ r c k i. rw (lt-ltb r (n * 8) (row_reached w (length t) n e r c i)) (either (leb 1 r && is_cell w h r c) f64zero (corner w t r c)))
+      (λ r c k i. rw (lt-ltb r rows (rw er (row_reached w (length t) n b eb e r c i))) (either (leb 1 r && is_cell w h r c) f64zero (corner w t r c)))
     where
       either : (b : Bool) (x y : Float) → cond (not b) x y ≡ cond b y x
       either true x y = refl

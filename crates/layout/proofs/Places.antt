@@ -139,12 +139,12 @@ cells_in_order w r s c d l k = ⊎_elim same north (eq-or-lt_of_le {n = r / 8} {
 
 -- ---- so many rows of blocks hold so many places, of which the last may lack some
 
-module _ (w t n : ℕ) (e : n ≡ div_ceil t (blocks_over w * 64)) where
+module _ (w t n b : ℕ) (eb : b ≡ blocks_over w) (e : n ≡ div_ceil t (b * 64)) where
   hold : (t ≤ n * (blocks_over w * 64)) × (n * (blocks_over w * 64) < t + blocks_over w * 64)
-  hold = let some = some_block w in rw e (div_ceil_times t (blocks_over w * 64) (omega arith))
+  hold = let some = some_block w in rw (e, eb) (div_ceil_times t (blocks_over w * 64) (omega arith))
 
   pub few_held : n ≤ t + 1
-  few_held = omega (arith, e, div-le_self t (blocks_over w * 64))
+  few_held = omega (arith, e, div-le_self t (b * 64))
 
   pub row_near : (r : ℕ) → r < n * 8 → cell_at w r 0 < t + 64
   unfolding cell_at

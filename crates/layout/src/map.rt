@@ -2,7 +2,7 @@
 ghost use Rattle.std.specs.Prelude.{◌≡◌, cond, length};
 ghost use Rattle.refusal.specs.Refusal.{number_in, outcome_of};
 ghost use Rattle.float.specs.Float.{f64zero};
-ghost use Rattle.layout.specs.Place.{payload_length, is_cell};
+ghost use Rattle.layout.specs.Place.{is_cell};
 ghost use Rattle.layout.specs.Rows.{row_length, row_corner};
 ghost use Rattle.layout.specs.Map.{to_blocks, to_rows, map_refusal, to_blocks_call, to_rows_call};
 ghost use Rattle.layout.specs.private.Sized.{Sized};
@@ -77,6 +77,7 @@ pub fn to_blocks(grid: Grid, rows: &[f64], blocks: &mut [f64]) -> Result<(), Ref
 }
 
 // Blocks to row layout, whatever stands past the edge.
+// (d) Beside `to_blocks`: the two share `check`; the rest is which buffer is written.
 #[tactic(auto, using(refusal::proofs::Chains::refused_as, refusal::proofs::Chains::left_as, crate::proofs::Maps::map_sized), unfolding(crate::specs::Map::to_rows_call))]
 pub fn to_rows(grid: Grid, blocks: &[f64], rows: &mut [f64]) -> Result<(), Refusal>
     ensures { (outcome_of result ≡ (to_rows_call grid blocks.now rows.old).answer)

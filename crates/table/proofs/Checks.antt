@@ -1,5 +1,5 @@
 -- What a rectangle call that is not refused has passed, and that the whole extent of a grid passes. Assumes nothing.
-use mathlib.Core.Path.{◌≡◌, refl, ap}
+use mathlib.Core.Path.{◌≡◌, refl, sym, ap, ◌∙◌}
 use mathlib.Core.Bool.{Bool, true, false, not, cond, ◌&&◌}
 use mathlib.Core.List.{List}
 use Prim.Native.Nat.{ℕ, suc, ◌+◌, ◌-◌, ◌<◌, ◌≤◌}
@@ -50,15 +50,35 @@ rectangle_passed g right rows cols e =
       columns = not-false (span_on_grid g.width cols) p16.0;
     }
 
+-- the cells of a band's two table rows are the table's
+module _ (w : ℕ) (rows : RowBand) (cells : List Float) (lines : Lines) (e : LinesOf w rows cells lines) where
+  box_by_lines : (a b : ℕ) → box_sum (line_cells lines) 0 0 a b ≡ box_sum (corner w cells) rows.north.0 rows.south.0 a b
+  unfolding box_sum corner
+  box_by_lines a b =
+      rw (
+        e.cells,
+        place_by_row w (suc rows.south.0) b lines.bottom (run_at b) e.bottom refl,
+        place_by_row w rows.north.0 b lines.top (run_at b) e.top refl,
+        place_by_row w (suc rows.south.0) a lines.bottom (run_at a) e.bottom refl,
+        place_by_row w rows.north.0 a lines.top (run_at a) e.top refl,
+      )
+
+  pub sum_by_lines : (cols : ColSpan) → rectangle_sum w (line_cells lines) 0 0 cols ≡ rectangle_sum w (corner w cells) rows.north.0 rows.south.0 cols
+  unfolding rectangle_sum
+  sum_by_lines FullTurn = box_by_lines 0 w
+  sum_by_lines (Through west east) =
+      rw (box_by_lines west.0 (suc east.0), box_by_lines west.0 w, box_by_lines 0 (suc east.0))
+
 pub record OnGrid (g : Grid) (cells : List Float) (rows : RowBand) (cols : ColSpan) : Type 0 where
   pub valid : valid_grid g ≡ true
   pub held : Held g (length cells) rows cols
 
 module _ (g : Grid) (cells : List Float) (rows : RowBand) (cols : ColSpan) where
-  pub held_facts : rectangle_held g cells rows cols ≡ true → Held g (length cells) rows cols
+  -- by what the test came out as
+  pub held_facts : (test : Bool) → test ≡ rectangle_held g cells rows cols → test ≡ true → Held g (length cells) rows cols
   unfolding rectangle_held
-  held_facts e =
-      let p = and_parts _ _ e in
+  held_facts test is e =
+      let p = and_parts _ _ (sym is ∙ e) in
       let q = and_parts _ _ p.0 in
       let r = and_parts _ _ q.1 in
       record {
@@ -78,9 +98,14 @@ module _ (g : Grid) (cells : List Float) (rows : RowBand) (cols : ColSpan) where
   unfolding held_sum
   held_sum_lem h = rw (is_held h)
 
-  pub not_held : rectangle_held g cells rows cols ≡ false → nan ≡ held_sum g cells rows cols
+  pub not_held : (test : Bool) → test ≡ rectangle_held g cells rows cols → test ≡ false → nan ≡ held_sum g cells rows cols
   unfolding held_sum
-  not_held e = rw e
+  not_held test is e = rw (sym is ∙ e)
+
+  -- and by the first cells of its two table rows
+  pub held_by_lines : Held g (length cells) rows cols → (lines : Lines) → LinesOf g.width rows cells lines
+      → rectangle_sum g.width (line_cells lines) 0 0 cols ≡ held_sum g cells rows cols
+  held_by_lines h lines e = sum_by_lines g.width rows cells lines e cols ∙ sym (held_sum_lem h)
 
   pub on_grid : rectangle_refusal g (right_table g cells) rows cols ≡ 0 → OnGrid g cells rows cols
   on_grid e =
@@ -123,25 +148,6 @@ first_piece w west east l m = go (leb west.0 east.0) refl
     go : (t : Bool) → leb west.0 east.0 ≡ t → (west.0 ≤ cond t (suc east.0) w) × (cond t (suc east.0) w ≤ w)
     go true e = (omega (arith, leb-true west.0 east.0 e), omega arith)
     go false e = (omega arith, omega arith)
-
--- the cells of those rows are the table's
-module _ (w : ℕ) (rows : RowBand) (cells : List Float) (lines : Lines) (e : LinesOf w rows cells lines) where
-  box_by_lines : (a b : ℕ) → box_sum (line_cells lines) 0 0 a b ≡ box_sum (corner w cells) rows.north.0 rows.south.0 a b
-  unfolding box_sum corner
-  box_by_lines a b =
-      rw (
-        e.cells,
-        place_by_row w (suc rows.south.0) b lines.bottom (run_at b) e.bottom refl,
-        place_by_row w rows.north.0 b lines.top (run_at b) e.top refl,
-        place_by_row w (suc rows.south.0) a lines.bottom (run_at a) e.bottom refl,
-        place_by_row w rows.north.0 a lines.top (run_at a) e.top refl,
-      )
-
-  pub sum_by_lines : (cols : ColSpan) → rectangle_sum w (line_cells lines) 0 0 cols ≡ rectangle_sum w (corner w cells) rows.north.0 rows.south.0 cols
-  unfolding rectangle_sum
-  sum_by_lines FullTurn = box_by_lines 0 w
-  sum_by_lines (Through west east) =
-      rw (box_by_lines west.0 (suc east.0), box_by_lines west.0 w, box_by_lines 0 (suc east.0))
 
 -- the whole extent passes the checks on a table of the right length
 pub whole_on_grid : (g : Grid) (cells : List Float) → valid_grid g ≡ true → length cells ≡ payload_length g.width g.height

@@ -111,8 +111,10 @@ impl<'a> Table<'a> {
         }
     }
 
-    // The rows' people, every column once; the NaN where the table does not hold them. `population` has the refusals.
-    // (b) not through `rectangle_sum`: a circle's row would call it, at 105 instructions a row in place of 73.
+    // The rows' people, every column once. `population` has the refusals.
+    // (a) a public call that cannot fail: the NaN where the table does not hold the rectangle, here and in `through_sum`.
+    // (b) neither of the two through `rectangle_sum`: 105 instructions a row of a circle in place of 73, counted by callgrind.
+    #[tactic(auto, using(crate::proofs::Checks::held_facts))]
     pub fn full_turn_sum(self, rows: RowBand) -> f64
         ensures { result ≡ held_sum self.entry.grid self.entry.cells.now rows FullTurn }
     {
@@ -123,6 +125,7 @@ impl<'a> Table<'a> {
     }
 
     // The same of the columns west to east.
+    #[tactic(auto, using(crate::proofs::Checks::held_facts))]
     pub fn through_sum(self, rows: RowBand, west: Col, east: Col) -> f64
         ensures { result ≡ held_sum self.entry.grid self.entry.cells.now rows (Through west east) }
     {

@@ -1,27 +1,21 @@
 -- `table::Table::full_turn_sum` meets its contract.
 -- Assumes nothing.
-use mathlib.Core.Path.{refl, sym, ◌∙◌}
+use mathlib.Core.Path.{refl, ◌∙◌}
 use native.Mathlib.Omega.{arith}
 use lib.Ieee.{of_bits}
 use Rattle.table.specs.Rectangle.{rectangle_sum}
-use Rattle.table.specs.declared.ColSpan.TheVariants.{FullTurn}
-use Rattle.table.proofs.Checks.{held_facts, held_sum_lem, not_held, lines_ordered, lines_inside, sum_by_lines}
+use Rattle.table.proofs.Checks.{held_facts, held_by_lines, not_held, lines_ordered, lines_inside}
 use Rattle.table.proofs.Table.full_turn_sum.Goals as goal
 
 pub returns-then-not-holds : goal.returns-then-not-holds
 unfolding of_bits
-returns-then-not-holds c = not_held _ _ _ _ (sym c.holds.ensures ∙ c.if-not-holds.true)
-
-pub lines-requires : goal.lines-requires
-lines-requires c = omega (arith, (held_facts _ _ _ _ (sym c.holds.ensures ∙ c.if-not-holds.false)).south)
+returns-then-not-holds c = not_held _ _ _ _ _ c.holds.ensures c.if-not-holds.true
 
 pub box_sum-requires : goal.box_sum-requires
 box_sum-requires c =
-    let h = held_facts _ _ _ _ (sym c.holds.ensures ∙ c.if-not-holds.false) in
+    let h = held_facts _ _ _ _ _ c.holds.ensures c.if-not-holds.false in
     (lines_ordered _ _ _ _ h _ refl _ c.lines.ensures, omega arith, lines_inside _ _ _ _ h _ refl _ c.lines.ensures)
 
 pub returns : goal.returns
 unfolding rectangle_sum
-returns c =
-    let h = held_facts _ _ _ _ (sym c.holds.ensures ∙ c.if-not-holds.false) in
-    c.box_sum.ensures ∙ sum_by_lines _ _ _ _ c.lines.ensures FullTurn ∙ sym (held_sum_lem _ _ _ _ h)
+returns c = c.box_sum.ensures ∙ held_by_lines _ _ _ _ (held_facts _ _ _ _ _ c.holds.ensures c.if-not-holds.false) _ c.lines.ensures
