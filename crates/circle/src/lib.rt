@@ -37,6 +37,7 @@ fn column_back(width: u32, centre: Col, back: u32) -> Col
 impl<'a> Circle<'a> {
     // The people of the columns of a row from h cells before the centre's to h cells after it. A row that closes is one
     // full turn: at an even width its two ends are the same column, which from west to east would be that column alone.
+    #[tactic(auto, using(crate::proofs::Placed::full_turn, crate::proofs::Steps::row_people, crate::proofs::Steps::through_people))]
     fn row_sum(self, closing: u32, row: Row, h: u32) -> f64
         requires { RowReady self.table.grid (length self.table.cells.now) closing self.centre.0 row.0 h }
         ensures { result ≡ rectangle_sum self.entry.table.grid.width (corner self.entry.table.grid.width self.entry.table.cells.now) row.0 row.0
@@ -55,6 +56,7 @@ impl<'a> Circle<'a> {
     }
 
     // The order is fixed: a rerun gives the same answer down to the last bit. What all rows share stands before the loop.
+    #[tactic(auto, using(crate::proofs::Steps::sum_end), unfolding(crate::specs::Circle::circle_sum))]
     fn sum(self) -> f64
         requires { CircleReady self.table.grid (length self.table.cells.now) self.kernel self.half_widths.now self.centre.0 }
         ensures { result ≡ circle_sum self.entry.table.grid.width (corner self.entry.table.grid.width self.entry.table.cells.now)

@@ -1,12 +1,13 @@
 -- What an accepted card's decimation is, and how much of each buffer it takes: its source table has at most 8,192 places. Assumes nothing.
-use mathlib.Core.Path.{◌≡◌, refl, sym, ap, subst}
+use mathlib.Core.Path.{◌≡◌, sym, subst}
 use mathlib.Core.Bool.{true}
-use mathlib.Core.List.{List, ◌∷◌}
-use Prim.Native.Nat.{ℕ, zero, suc, ◌+◌, ◌*◌, ◌≤◌, ◌<◌, min}
+use mathlib.Core.List.{List}
+use Prim.Native.Nat.{ℕ, ◌+◌, ◌*◌, ◌≤◌, ◌<◌, min}
 use native.Mathlib.Nat.{le_refl}
 use native.Mathlib.Numerals.{add-one}
 use native.Mathlib.Omega.{arith}
 use lib.ListN.{length, take, replicate, length-replicate}
+use Rattle.std.proofs.lemmas.List.{take-replicate}
 use lib.Seq.{length-take-le}
 use lib.Ieee.{Float}
 use Rattle.float.specs.Float.{f64zero}
@@ -32,14 +33,8 @@ front_length l {n} e h = sym (length-take-le n l (front_inside e h))
 pub filled_length : {A : Type 0} {l : List A} (m : ℕ) (x : A) → l ≡ replicate m x → m ≡ length l
 filled_length m x e = rw e (sym (length-replicate m x))
 
--- the first n of m zeros are n zeros
-take_zeros : {A : Type 0} (n m : ℕ) (v : A) → n ≤ m → take n (replicate m v) ≡ replicate n v
-take_zeros zero m v h = refl
-take_zeros (suc n) zero v h = absurd (omega arith)
-take_zeros {A} (suc n) (suc m) v h = ap (λ (r : List A). v ∷ r) (take_zeros n m v (omega arith))
-
 zeros_front : (l : List Float) (n m : ℕ) → l ≡ replicate m f64zero → n ≤ m → take n l ≡ replicate n f64zero
-zeros_front l n m e h = rw e (take_zeros n m f64zero h)
+zeros_front l n m e h = rw e (take-replicate n m f64zero h)
 
 -- ---- an accepted card
 
@@ -85,6 +80,13 @@ module _ {card : List ℕ} {h : Header} (a : Accepted card h) where
         table = held;
         few = omega (arith, held, small, a.small);
       }
+
+  -- a row, and a coarse row, are shorter than a buffer of 1,024
+  pub narrow : d.source.width < 1024
+  narrow = omega (arith, sizes.width)
+
+  pub coarse_narrow : d.grid.width < 1024
+  coarse_narrow = omega (arith, sizes.columns)
 
   -- ---- the fronts of buffers of zeros are what a build begins with
 

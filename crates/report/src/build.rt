@@ -11,6 +11,7 @@ use card::{AcceptedCard, u32_at};
 use refusal::Refusal;
 
 // Row i of the card fills `row`.
+#[tactic(auto, using(crate::proofs::RowWords::row_inside, crate::proofs::RowWords::words_turn), unfolding(card::specs::Card::row_at))]
 fn read_row(card: AcceptedCard, i: u32, row: &mut [u32])
     requires inside { i < card.header.decimation.source.height }
     requires wide { length row.old ≡ card.header.decimation.source.width }
@@ -23,6 +24,7 @@ fn read_row(card: AcceptedCard, i: u32, row: &mut [u32])
 }
 
 // The build over a table of zeros. The other buffers are done with at its end.
+#[tactic(auto, using(crate::proofs::Sizes::narrow, crate::proofs::Sizes::coarse_narrow, std::proofs::lemmas::Grind::common_steps))]
 pub(crate) fn build(card: AcceptedCard, table: &mut [f64]) -> Result<BuiltTable, Refusal>
     requires { table.old ≡ (empty_buffers card.header.decimation).table }
     ensures { Finished card.entry.bytes.now card.entry.header (outcome_of result) table.new }

@@ -12,6 +12,7 @@ use refusal::Refusal;
 use table::Table;
 
 // The people in a circle: 18 and 19 by its radius, 15 and 17 by its kernel, then 16. What `widths` holds does not matter.
+#[tactic(auto, using(crate::proofs::Counting::radius_refused, crate::proofs::Counting::kernel_refused, crate::proofs::Counting::circle_counted))]
 pub(crate) fn people_in(t: Table, c: CardCircle, widths: &mut [u32]) -> Result<f64, Refusal>
     requires { Countable t.grid t.cells.now widths.old }
     ensures { outcome_of result ≡ outcome (circle_checks t.entry.grid c) (circle_count t.entry.grid t.entry.cells.now c) }

@@ -1,34 +1,9 @@
 -- `report::build::build` meets its contract.
 -- Assumes nothing.
 use Rattle.std.proofs.Common.{◌≡◌, refl, sym, ◌∙◌, arith, rules}
-use Rattle.report.proofs.Sizes.{front_inside, front_length, filled_length, sizes, emptied}
+use Rattle.report.proofs.Sizes.{front_length, filled_length, sizes, emptied}
 use Rattle.report.proofs.Building.{never_refused, started, row_taken, row_never_refused, finished}
 use Rattle.report.proofs.build.build.Goals as goal
-
--- ---- the buffers
-pub slice_bounds-row-end : goal.slice_bounds-row-end
-slice_bounds-row-end c = front_inside (filled_length 1024 _ c.filled-row.ensures) (sizes c.args.card.accepted).row
-
-pub slice_bounds-row-end-2 : goal.slice_bounds-row-end-2
-slice_bounds-row-end-2 c = front_length _ (filled_length 1024 _ c.filled-row.ensures) (sizes c.args.card.accepted).row
-
-pub slice_bounds-acc-end : goal.slice_bounds-acc-end
-slice_bounds-acc-end c = front_inside (filled_length 1024 _ c.filled-acc.ensures) (sizes c.args.card.accepted).width
-
-pub slice_bounds-lent-end : goal.slice_bounds-lent-end
-slice_bounds-lent-end c = front_length _ (filled_length 1024 _ c.filled-acc.ensures) (sizes c.args.card.accepted).width
-
-pub slice_bounds-corr-end : goal.slice_bounds-corr-end
-slice_bounds-corr-end c = front_inside (filled_length 1024 _ c.filled-corr.ensures) (sizes c.args.card.accepted).width
-
-pub slice_bounds-lent-end-2 : goal.slice_bounds-lent-end-2
-slice_bounds-lent-end-2 c = front_length _ (filled_length 1024 _ c.filled-corr.ensures) (sizes c.args.card.accepted).width
-
-pub slice_bounds-coarse-end : goal.slice_bounds-coarse-end
-slice_bounds-coarse-end c = front_inside (filled_length 1024 _ c.filled-coarse.ensures) (sizes c.args.card.accepted).columns
-
-pub slice_bounds-lent-end-3 : goal.slice_bounds-lent-end-3
-slice_bounds-lent-end-3 c = front_length _ (filled_length 1024 _ c.filled-coarse.ensures) (sizes c.args.card.accepted).columns
 
 -- ---- a start that refuses: never
 pub returns-in_err-built : goal.returns-in_err-built
