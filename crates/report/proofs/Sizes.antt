@@ -88,6 +88,10 @@ module _ {card : List ℕ} {h : Header} (a : Accepted card h) where
   pub coarse_narrow : d.grid.width < 1024
   coarse_narrow = omega (arith, sizes.columns)
 
+  -- the coarse table is no longer than a buffer of 8,192
+  pub few_places : min (payload_length d.grid.width d.grid.height) most ≤ 8192
+  few_places = sizes.few
+
   -- ---- the fronts of buffers of zeros are what a build begins with
 
   pub emptied : {acc corr coarse table : List Float} → acc ≡ replicate 1024 f64zero → corr ≡ replicate 1024 f64zero → coarse ≡ replicate 1024 f64zero

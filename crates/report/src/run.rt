@@ -14,6 +14,7 @@ use digits::Page;
 use refusal::Refusal;
 
 // The build over a table of zeros, then the text. A card that is refused leaves the page as it is.
+#[tactic(auto, using(crate::proofs::Sizes::few_places, std::proofs::lemmas::Grind::common_steps))]
 fn report(card: &[u8], page: &mut Page) -> Result<(), Refusal>
     ensures laid { OnOk result ((Lays page.old (printed card.now) page.new) × (length (printed card.now) ≤ 139333)) }
     ensures left { IfErr result (λ r. (page.new ≡ page.old) × (printed card.now ≡ refused_line (number_of r))) }

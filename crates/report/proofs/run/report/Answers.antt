@@ -1,18 +1,10 @@
 -- `report::run::report` meets its contract.
 -- Assumes nothing.
 use Rattle.std.proofs.Common.{◌≡◌, refl, Err, arith, rules}
-use Rattle.report.proofs.Sizes.{front_inside, front_length, filled_length, sizes, emptied_table}
+use Rattle.report.proofs.Sizes.{emptied_table}
 use Rattle.report.proofs.Building.{table_filled}
 use Rattle.report.proofs.Reported.{report_whole, printed_refused}
 use Rattle.report.proofs.run.report.Goals as goal
-
-pub slice_bounds-table-end : goal.slice_bounds-table-end
-slice_bounds-table-end c =
-    rw c.payload_len.ensures (front_inside (filled_length 8192 _ c.filled-table.ensures) (sizes c.in_ok-card.card.accepted).few)
-
-pub slice_bounds-table-end-2 : goal.slice_bounds-table-end-2
-slice_bounds-table-end-2 c =
-    rw c.payload_len.ensures (front_length _ (filled_length 8192 _ c.filled-table.ensures) (sizes c.in_ok-card.card.accepted).few)
 
 pub build-requires : goal.build-requires
 build-requires c = emptied_table c.in_ok-card.card.accepted c.filled-table.ensures c.payload_len.ensures
