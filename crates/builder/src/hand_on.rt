@@ -47,6 +47,7 @@ fn store(dst: &mut [f64], at: usize, cells: &[f64])
 }
 
 // A table row stands in runs of 8, 64 places apart, of which the last may be cut short.
+#[tactic(auto, using(crate::proofs::Laid::run_laid, crate::proofs::Laid::rest_laid))]
 fn emit(dst: &mut [f64], src: &[f64])
     requires { (c : ℕ) → c < length src.now → run_at c < length dst.old }
     ensures { dst.new ≡ laid_runs 0 dst.old src.now 0 (length src.now) }
