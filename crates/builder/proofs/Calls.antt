@@ -114,11 +114,16 @@ module _ (b : Builder) (acc coarse table : List Float) where
       let q : eqb (suc b.rows % b.decimation.factor) 0 ≡ true = eq-eqb _ 0 (rw (add-one b.rows) at d) in
       rw q (eo, rw (et, er, eo, add-one b.rows, add-one b.decimation.grid.width))
 
-  pub not_handed_on : ((b.rows + 1) % b.decimation.factor ≡ 0 → ⊥) → (coarse ≡ coarse_after b acc coarse) × (table ≡ table_after b acc coarse table)
-  unfolding coarse_after table_after
-  not_handed_on h =
-      let q : eqb (suc b.rows % b.decimation.factor) 0 ≡ false = ne_eqb _ 0 (rw (add-one b.rows) at h) in
-      rw q (refl, refl)
+  not_completed : ((b.rows + 1) % b.decimation.factor ≡ 0 → ⊥) → eqb (suc b.rows % b.decimation.factor) 0 ≡ false
+  not_completed h = ne_eqb _ 0 (rw (add-one b.rows) at h)
+
+  pub coarse_left : ((b.rows + 1) % b.decimation.factor ≡ 0 → ⊥) → coarse ≡ coarse_after b acc coarse
+  unfolding coarse_after
+  coarse_left h = rw (not_completed h)
+
+  pub table_left : ((b.rows + 1) % b.decimation.factor ≡ 0 → ⊥) → table ≡ table_after b acc coarse table
+  unfolding table_after
+  table_left h = rw (not_completed h)
 
 -- o being what the lengths give
 module _ (g : Grid) (k nodata : ℕ) (m : Buffers) (o : Outcome Builder)

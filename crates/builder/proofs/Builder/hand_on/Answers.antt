@@ -7,14 +7,8 @@ use lib.ListN.{length}
 use Rattle.decimation.proofs.Factors.{framed}
 use Rattle.builder.proofs.HandedRows.{length_coarse_filled, length_handed_on}
 use Rattle.builder.proofs.Kept.{acc_wide, coarse_wide, row_room, completed_inside}
-use Rattle.builder.proofs.Calls.{handed_on_lem, not_handed_on}
+use Rattle.builder.proofs.Calls.{handed_on_lem}
 use Rattle.builder.proofs.Builder.hand_on.Goals as goal
-
-pub nonzero_rem-rows : goal.nonzero_rem-rows
-nonzero_rem-rows c = (framed c.args.self.decimation c.requires.0.valid).some
-
-pub returns-then-rows-d-ne0 : goal.returns-then-rows-d-ne0
-returns-then-rows-d-ne0 c = let s = c.args in not_handed_on s.self s.acc.now s.coarse.now s.table.now c.if-rows-d-ne0.true
 
 pub lay-requires : goal.lay-requires
 lay-requires c =
