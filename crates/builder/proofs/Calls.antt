@@ -104,15 +104,21 @@ module _ (b : Builder) (row : List ℕ) (m : Buffers) (e : passed ≡ row_refusa
 -- ---- the row handed on
 
 module _ (b : Builder) (acc coarse table : List Float) where
-  pub handed_on_lem : (coarse' row table' : List Float) → (b.rows + 1) % b.decimation.factor ≡ 0
+  completed : (b.rows + 1) % b.decimation.factor ≡ 0 → eqb (suc b.rows % b.decimation.factor) 0 ≡ true
+  completed d = eq-eqb _ 0 (rw (add-one b.rows) at d)
+
+  pub coarse_handed : (coarse' : List Float) → (b.rows + 1) % b.decimation.factor ≡ 0
+      → coarse' ≡ coarse_filled acc coarse b.decimation.factor → coarse' ≡ coarse_after b acc coarse
+  unfolding coarse_after
+  coarse_handed coarse' d e = rw (completed d) e
+
+  pub table_handed : (coarse' row table' : List Float) → (b.rows + 1) % b.decimation.factor ≡ 0
       → coarse' ≡ coarse_filled acc coarse b.decimation.factor
       → row ≡ handed_on acc coarse' b.decimation.factor (b.decimation.grid.width + 1)
       → table' ≡ laid_row b.decimation.grid.width table ((b.rows + 1) / b.decimation.factor) row
-      → (coarse' ≡ coarse_after b acc coarse) × (table' ≡ table_after b acc coarse table)
-  unfolding coarse_after table_after
-  handed_on_lem coarse' row table' d eo er et =
-      let q : eqb (suc b.rows % b.decimation.factor) 0 ≡ true = eq-eqb _ 0 (rw (add-one b.rows) at d) in
-      rw q (eo, rw (et, er, eo, add-one b.rows, add-one b.decimation.grid.width))
+      → table' ≡ table_after b acc coarse table
+  unfolding table_after
+  table_handed coarse' row table' d eo er et = rw (completed d, et, er, eo, add-one b.rows, add-one b.decimation.grid.width)
 
   not_completed : ((b.rows + 1) % b.decimation.factor ≡ 0 → ⊥) → eqb (suc b.rows % b.decimation.factor) 0 ≡ false
   not_completed h = ne_eqb _ 0 (rw (add-one b.rows) at h)
