@@ -2,7 +2,7 @@
 use mathlib.Core.Path.{◌≡◌, refl, sym, ap, ◌∙◌}
 use mathlib.Core.Bool.{Bool, true, false, not}
 use mathlib.Core.List.{List}
-use Prim.Native.Nat.{ℕ, zero, suc, ◌+◌, ◌/◌, ◌%◌}
+use Prim.Native.Nat.{ℕ, zero, suc, ◌+◌, ◌/◌, ◌%◌, ◌≤◌, ◌<◌}
 use native.Mathlib.Numerals.{add-one}
 use borrow.Author.Tests.{eq-eqb, ne_eqb}
 use lib.Dec.{eqb}
@@ -15,7 +15,7 @@ use Rattle.digest.specs.Digest.{first_digest, digest_of}
 use Rattle.raster.specs.declared.CellTallies.{CellTallies}
 use Rattle.raster.specs.Raster.{sanitised_row, row_tallies, plus_tallies, held_tallies, no_tallies}
 use Rattle.grid.specs.declared.Grid.{Grid}
-use Rattle.grid.specs.Grid.{valid_grid}
+use Rattle.grid.specs.Grid.{limit, valid_grid}
 use Rattle.float.specs.Float.{f64zero}
 use Rattle.layout.specs.Written.{cleared_table, laid_row}
 use Rattle.decimation.specs.declared.Decimation.{Decimation}
@@ -26,8 +26,9 @@ use Rattle.builder.specs.declared.Builder.{Builder}
 use Rattle.builder.specs.Rows.{coarse_filled, handed_on}
 use Rattle.builder.specs.Build.{Lengths, Buffers, buffers, lengths_of, lent_refusal, start_refusal, first_builder, cleared_buffers, start_call, row_refusal}
 use Rattle.builder.specs.Build.{builder_after, coarse_after, table_after, buffers_after, row_call, row_left}
-use Rattle.builder.proofs.Builders.{start_goes_on, row_passed}
-use Rattle.builder.proofs.Kept.{tallies_fit}
+use Rattle.builder.specs.private.Room.{Room}
+use Rattle.builder.proofs.Builders.{Taken, start_goes_on, row_passed}
+use Rattle.builder.proofs.Kept.{swept_room, rows_fit, tallies_fit}
 
 -- ---- a start
 
@@ -72,6 +73,17 @@ left_refused (suc n) m a x y e = refl
 -- ---- a row that its checks pass
 
 module _ (b : Builder) (row : List ℕ) (m : Buffers) (e : passed ≡ row_refusal b (length row) (lengths_of m)) where
+  own : Taken b row m
+  own = row_passed b row m (sym e)
+
+  pub row_next : b.rows + 1 ≤ limit
+  row_next = rows_fit b row m own
+
+  -- what is left of it has room for the row handed on
+  pub row_room : (left : List Float) → left ≡ acc_after (sanitised_row b.nodata row) m.acc m.corr
+      → Room b.decimation (length left) (length m.coarse) (length m.table) × (b.rows < b.decimation.source.height)
+  row_room left is = (swept_room b row m own left is, own.left)
+
   pub row_taken : (row' : List ℕ) (acc corr coarse table : List Float) (more t : CellTallies) (digest : ℕ)
       → more ≡ row_tallies b.nodata row
       → row' ≡ sanitised_row b.nodata row
@@ -86,27 +98,38 @@ module _ (b : Builder) (row : List ℕ) (m : Buffers) (e : passed ≡ row_refusa
       × (buffers acc corr coarse table ≡ (row_call b row m).buffers)
   unfolding row_call row_left builder_after buffers_after
   row_taken row' acc corr coarse table more t digest em er et ed ea ec eo eb =
-      let fit = tallies_fit b row m (row_passed b row m (sym e)) in
+      let fit = tallies_fit b row m own in
       rw (← e, eb, eo, ec, ea, ed, et, em, er, fit, add-one b.rows) (refl, refl, refl)
 
 -- ---- the row handed on
 
 module _ (b : Builder) (acc coarse table : List Float) where
-  pub handed_on_lem : (coarse' row table' : List Float) → (b.rows + 1) % b.decimation.factor ≡ 0
+  completed : (b.rows + 1) % b.decimation.factor ≡ 0 → eqb (suc b.rows % b.decimation.factor) 0 ≡ true
+  completed d = eq-eqb _ 0 (rw (add-one b.rows) at d)
+
+  pub coarse_handed : (coarse' : List Float) → (b.rows + 1) % b.decimation.factor ≡ 0
+      → coarse' ≡ coarse_filled acc coarse b.decimation.factor → coarse' ≡ coarse_after b acc coarse
+  unfolding coarse_after
+  coarse_handed coarse' d e = rw (completed d) e
+
+  pub table_handed : (coarse' row table' : List Float) → (b.rows + 1) % b.decimation.factor ≡ 0
       → coarse' ≡ coarse_filled acc coarse b.decimation.factor
       → row ≡ handed_on acc coarse' b.decimation.factor (b.decimation.grid.width + 1)
       → table' ≡ laid_row b.decimation.grid.width table ((b.rows + 1) / b.decimation.factor) row
-      → (coarse' ≡ coarse_after b acc coarse) × (table' ≡ table_after b acc coarse table)
-  unfolding coarse_after table_after
-  handed_on_lem coarse' row table' d eo er et =
-      let q : eqb (suc b.rows % b.decimation.factor) 0 ≡ true = eq-eqb _ 0 (rw (add-one b.rows) at d) in
-      rw q (eo, rw (et, er, eo, add-one b.rows, add-one b.decimation.grid.width))
+      → table' ≡ table_after b acc coarse table
+  unfolding table_after
+  table_handed coarse' row table' d eo er et = rw (completed d, et, er, eo, add-one b.rows, add-one b.decimation.grid.width)
 
-  pub not_handed_on : ((b.rows + 1) % b.decimation.factor ≡ 0 → ⊥) → (coarse ≡ coarse_after b acc coarse) × (table ≡ table_after b acc coarse table)
-  unfolding coarse_after table_after
-  not_handed_on h =
-      let q : eqb (suc b.rows % b.decimation.factor) 0 ≡ false = ne_eqb _ 0 (rw (add-one b.rows) at h) in
-      rw q (refl, refl)
+  not_completed : ((b.rows + 1) % b.decimation.factor ≡ 0 → ⊥) → eqb (suc b.rows % b.decimation.factor) 0 ≡ false
+  not_completed h = ne_eqb _ 0 (rw (add-one b.rows) at h)
+
+  pub coarse_left : ((b.rows + 1) % b.decimation.factor ≡ 0 → ⊥) → coarse ≡ coarse_after b acc coarse
+  unfolding coarse_after
+  coarse_left h = rw (not_completed h)
+
+  pub table_left : ((b.rows + 1) % b.decimation.factor ≡ 0 → ⊥) → table ≡ table_after b acc coarse table
+  unfolding table_after
+  table_left h = rw (not_completed h)
 
 -- o being what the lengths give
 module _ (g : Grid) (k nodata : ℕ) (m : Buffers) (o : Outcome Builder)

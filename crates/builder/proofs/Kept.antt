@@ -35,6 +35,9 @@ module _ (d : Decimation) (acc coarse table : ℕ) (r : Room d acc coarse table)
   own : Framed d
   own = framed d r.valid
 
+  pub some_factor : 0 < d.factor
+  some_factor = own.some
+
   -- the coarse row's samples are in the accumulator, and both have a whole row for the table
   pub samples : coarse * d.factor < acc + d.factor
   samples = rw (r.acc, r.coarse, suc-mul d.grid.width d.factor) (omega (arith, own.wide))

@@ -47,6 +47,7 @@ fn store(dst: &mut [f64], at: usize, cells: &[f64])
 }
 
 // A table row stands in runs of 8, 64 places apart, of which the last may be cut short.
+#[tactic(auto, using(crate::proofs::Laid::run_laid, crate::proofs::Laid::rest_laid))]
 fn emit(dst: &mut [f64], src: &[f64])
     requires { (c : ℕ) → c < length src.now → run_at c < length dst.old }
     ensures { dst.new ≡ laid_runs 0 dst.old src.now 0 (length src.now) }
@@ -73,7 +74,7 @@ pub(crate) fn lay(table: &mut [f64], grid: Grid, at: u32, row: &[f64])
 
 impl Builder {
     // The factor divides the height, so the last row always completes a table row: no block is left part filled.
-    #[tactic(auto, using(decimation::proofs::Factors::framed, crate::proofs::HandedRows::length_coarse_filled, crate::proofs::Kept::samples, crate::proofs::Kept::acc_wide, crate::proofs::Kept::coarse_wide))]
+    #[tactic(auto, using(decimation::proofs::Factors::framed, crate::proofs::HandedRows::length_coarse_filled, crate::proofs::Kept::samples, crate::proofs::Kept::acc_wide, crate::proofs::Kept::coarse_wide, crate::proofs::Kept::some_factor, crate::proofs::Calls::coarse_handed, crate::proofs::Calls::table_handed, crate::proofs::Calls::coarse_left, crate::proofs::Calls::table_left))]
     pub(crate) fn hand_on(self, acc: &[f64], coarse: &mut [f64], table: &mut [f64])
         requires { (Room self.decimation (length acc.now) (length coarse.old) (length table.old))
             × (self.rows < self.decimation.source.height) }

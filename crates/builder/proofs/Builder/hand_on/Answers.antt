@@ -7,14 +7,7 @@ use lib.ListN.{length}
 use Rattle.decimation.proofs.Factors.{framed}
 use Rattle.builder.proofs.HandedRows.{length_coarse_filled, length_handed_on}
 use Rattle.builder.proofs.Kept.{acc_wide, coarse_wide, row_room, completed_inside}
-use Rattle.builder.proofs.Calls.{handed_on_lem, not_handed_on}
 use Rattle.builder.proofs.Builder.hand_on.Goals as goal
-
-pub nonzero_rem-rows : goal.nonzero_rem-rows
-nonzero_rem-rows c = (framed c.args.self.decimation c.requires.0.valid).some
-
-pub returns-then-rows-d-ne0 : goal.returns-then-rows-d-ne0
-returns-then-rows-d-ne0 c = let s = c.args in not_handed_on s.self s.acc.now s.coarse.now s.table.now c.if-rows-d-ne0.true
 
 pub lay-requires : goal.lay-requires
 lay-requires c =
@@ -25,9 +18,3 @@ lay-requires c =
     let row : length c.decimated.result.now ≡ suc d.grid.width = ap length c.decimated.ensures
     ∙ rw (add-one d.grid.width) (length_handed_on _ _ _ _ (acc_wide d _ _ _ c.requires.0) (rw filled (coarse_wide d _ _ _ c.requires.0))) in
     row_room d _ _ _ c.requires.0 _ _ (rw (add-one b.rows) (completed_inside d b.rows (framed d c.requires.0.valid) c.requires.1)) row
-
-pub returns : goal.returns
-returns c =
-    let a = c.args in
-    handed_on_lem a.self a.acc.now a.coarse.now a.table.now _ _ _ c.if-rows-d-ne0.false c.fill_coarse.ensures
-    c.decimated.ensures c.lay.ensures

@@ -1,10 +1,9 @@
 -- `builder::hand_on::emit` meets its contract.
 -- Assumes nothing.
-use mathlib.Core.Path.{◌≡◌}
 use Prim.Native.Nat.{◌/◌, ◌<◌}
 use native.Mathlib.Omega.{arith}
 use lib.ListN.{length}
-use Rattle.builder.proofs.Laid.{part_fits, run_length, run_laid, rest_laid}
+use Rattle.builder.proofs.Laid.{part_fits, run_length}
 use Rattle.builder.proofs.hand_on.emit.Goals as goal
 
 pub store-requires : goal.store-requires
@@ -14,12 +13,6 @@ store-requires c =
     rw (c.as_chunks.ensures.front, run_length src c.loop-k.k inside, c.loop-k.auto.dst)
     (omega (arith, part_fits c.loop-k.k 8 (length src) (length c.args.dst.now) (omega arith) (omega arith) (omega arith) c.requires))
 
-pub loop-k-preserved : goal.loop-k-preserved
-loop-k-preserved c =
-    let src = c.args.src.now in
-    let inside : c.loop-k.k < length src / 8 = omega (arith, c.as_chunks.ensures.front_len) in
-    rw (c.store.ensures, c.loop-k.invariant, c.as_chunks.ensures.front) (run_laid src c.args.dst.now c.loop-k.k inside)
-
 pub store-requires-then-not-is_empty : goal.store-requires-then-not-is_empty
 store-requires-then-not-is_empty c =
     let src = c.args.src.now in
@@ -27,11 +20,3 @@ store-requires-then-not-is_empty c =
     rw (c.loop-k.auto.dst)
     (part_fits (length c.as_chunks.result.0.now) (length c.as_chunks.result.1.now) (length src) (length c.args.dst.now)
     (grind arith) (omega (arith, e.back_len)) (omega (arith, e.front_len, e.back_len)) c.requires)
-
-pub returns-then-not-is_empty : goal.returns-then-not-is_empty
-returns-then-not-is_empty c =
-    let src = c.args.src.now in
-    let e = c.as_chunks.ensures in
-    let runs : length c.as_chunks.result.0.now ≡ c.loop-k.k = omega arith in
-    let all : length src / 8 ≡ c.loop-k.k = omega (arith, e.front_len) in
-    rw (c.store-then-not-is_empty.ensures, c.loop-k.invariant, runs, e.back, all) (rest_laid src c.args.dst.now c.loop-k.k (omega arith))
