@@ -20,15 +20,16 @@ use Rattle.float.specs.Float.{f64zero}
 use Rattle.layout.specs.Written.{cleared_table, laid_row}
 use Rattle.decimation.specs.declared.Decimation.{Decimation}
 use Rattle.decimation.specs.Decimation.{factor_refusal, decimation_new, valid_decimation}
-use Rattle.decimation.proofs.Factors.{Made, decimation_made}
+use Rattle.decimation.proofs.Factors.{Made, decimation_made, framed}
 use Rattle.sweep.specs.Sweep.{acc_after, corr_after}
 use Rattle.builder.specs.declared.Builder.{Builder}
 use Rattle.builder.specs.Rows.{coarse_filled, handed_on}
 use Rattle.builder.specs.Build.{Lengths, Buffers, buffers, lengths_of, lent_refusal, start_refusal, first_builder, cleared_buffers, start_call, row_refusal}
 use Rattle.builder.specs.Build.{builder_after, coarse_after, table_after, buffers_after, row_call, row_left}
-use Rattle.builder.specs.private.Room.{Room}
+use Rattle.builder.specs.private.Room.{Room, RowRoom}
 use Rattle.builder.proofs.Builders.{Taken, start_goes_on, row_passed}
-use Rattle.builder.proofs.Kept.{swept_room, rows_fit, tallies_fit}
+use Rattle.builder.proofs.Kept.{acc_wide, coarse_wide, row_room, completed_inside, swept_room, rows_fit, tallies_fit}
+use Rattle.builder.proofs.HandedRows.{length_coarse_filled, length_handed_on}
 
 -- ---- a start
 
@@ -80,9 +81,9 @@ module _ (b : Builder) (row : List ℕ) (m : Buffers) (e : passed ≡ row_refusa
   row_next = rows_fit b row m own
 
   -- what is left of it has room for the row handed on
-  pub row_room : (left : List Float) → left ≡ acc_after (sanitised_row b.nodata row) m.acc m.corr
+  pub room_left : (left : List Float) → left ≡ acc_after (sanitised_row b.nodata row) m.acc m.corr
       → Room b.decimation (length left) (length m.coarse) (length m.table) × (b.rows < b.decimation.source.height)
-  row_room left is = (swept_room b row m own left is, own.left)
+  room_left left is = (swept_room b row m own left is, own.left)
 
   pub row_taken : (row' : List ℕ) (acc corr coarse table : List Float) (more t : CellTallies) (digest : ℕ)
       → more ≡ row_tallies b.nodata row
@@ -119,6 +120,18 @@ module _ (b : Builder) (acc coarse table : List Float) where
       → table' ≡ table_after b acc coarse table
   unfolding table_after
   table_handed coarse' row table' d eo er et = rw (completed d, et, er, eo, add-one b.rows, add-one b.decimation.grid.width)
+
+  -- the row has a place in the table
+  pub row_placed : (coarse' row : List Float) → Room b.decimation (length acc) (length coarse) (length table) → b.rows < b.decimation.source.height
+      → coarse' ≡ coarse_filled acc coarse b.decimation.factor
+      → row ≡ handed_on acc coarse' b.decimation.factor (b.decimation.grid.width + 1)
+      → RowRoom b.decimation.grid ((b.rows + 1) / b.decimation.factor) (length row) (length table)
+  row_placed coarse' row r l eo er =
+      let d = b.decimation in
+      let filled = ap length eo ∙ length_coarse_filled acc coarse d.factor in
+      let full : length row ≡ suc d.grid.width = ap length er
+      ∙ rw (add-one d.grid.width) (length_handed_on _ _ _ _ (acc_wide d _ _ _ r) (rw filled (coarse_wide d _ _ _ r))) in
+      row_room d _ _ _ r _ _ (rw (add-one b.rows) (completed_inside d b.rows (framed d r.valid) l)) full
 
   not_completed : ((b.rows + 1) % b.decimation.factor ≡ 0 → ⊥) → eqb (suc b.rows % b.decimation.factor) 0 ≡ false
   not_completed h = ne_eqb _ 0 (rw (add-one b.rows) at h)

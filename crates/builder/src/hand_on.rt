@@ -74,7 +74,7 @@ pub(crate) fn lay(table: &mut [f64], grid: Grid, at: u32, row: &[f64])
 
 impl Builder {
     // The factor divides the height, so the last row always completes a table row: no block is left part filled.
-    #[tactic(auto, using(decimation::proofs::Factors::framed, crate::proofs::HandedRows::length_coarse_filled, crate::proofs::Kept::samples, crate::proofs::Kept::acc_wide, crate::proofs::Kept::coarse_wide, crate::proofs::Kept::some_factor, crate::proofs::Calls::coarse_handed, crate::proofs::Calls::table_handed, crate::proofs::Calls::coarse_left, crate::proofs::Calls::table_left))]
+    #[tactic(auto, using(decimation::proofs::Factors::framed, crate::proofs::HandedRows::length_coarse_filled, crate::proofs::Kept::samples, crate::proofs::Kept::acc_wide, crate::proofs::Kept::coarse_wide, crate::proofs::Kept::some_factor, crate::proofs::Calls::row_placed, crate::proofs::Calls::coarse_handed, crate::proofs::Calls::table_handed, crate::proofs::Calls::coarse_left, crate::proofs::Calls::table_left))]
     pub(crate) fn hand_on(self, acc: &[f64], coarse: &mut [f64], table: &mut [f64])
         requires { (Room self.decimation (length acc.now) (length coarse.old) (length table.old))
             × (self.rows < self.decimation.source.height) }

@@ -3,13 +3,13 @@
 use native.Mathlib.Omega.{arith}
 use borrow.Author.Rules.{rules}
 use Rattle.builder.specs.Lent.{buffers_lent}
-use Rattle.builder.proofs.Calls.{row_taken, row_room, row_next}
+use Rattle.builder.proofs.Calls.{row_taken, room_left, row_next}
 use Rattle.builder.proofs.Builder.row.Goals as goal
 
 pub hand_on-requires : goal.hand_on-requires
 hand_on-requires c =
     let a = c.args in
-    row_room a.self a.row.now (buffers_lent a.lent.now) (search rules) _ c.sweep_row-swept.ensures.2
+    room_left a.self a.row.now (buffers_lent a.lent.now) (search rules) _ c.sweep_row-swept.ensures.2
 
 pub overflow_add-result : goal.overflow_add-result
 overflow_add-result c =
