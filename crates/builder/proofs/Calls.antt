@@ -144,6 +144,17 @@ module _ (b : Builder) (acc coarse table : List Float) where
   unfolding table_after
   table_left h = rw (not_completed h)
 
+  -- both together
+  pub handed_on_lem : (coarse' row table' : List Float) → (b.rows + 1) % b.decimation.factor ≡ 0
+      → coarse' ≡ coarse_filled acc coarse b.decimation.factor
+      → row ≡ handed_on acc coarse' b.decimation.factor (b.decimation.grid.width + 1)
+      → table' ≡ laid_row b.decimation.grid.width table ((b.rows + 1) / b.decimation.factor) row
+      → (coarse' ≡ coarse_after b acc coarse) × (table' ≡ table_after b acc coarse table)
+  handed_on_lem coarse' row table' d eo er et = (coarse_handed coarse' d eo, table_handed coarse' row table' d eo er et)
+
+  pub not_handed_on : ((b.rows + 1) % b.decimation.factor ≡ 0 → ⊥) → (coarse ≡ coarse_after b acc coarse) × (table ≡ table_after b acc coarse table)
+  not_handed_on h = (coarse_left h, table_left h)
+
 -- o being what the lengths give
 module _ (g : Grid) (k nodata : ℕ) (m : Buffers) (o : Outcome Builder)
     (e : o ≡ outcome (start_refusal g k (lengths_of m)) (first_builder g k nodata)) where
