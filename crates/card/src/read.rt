@@ -16,7 +16,7 @@ use sections::{ByteRange, check_sections};
 // The most bytes of a card, and the most places of its source table.
 const MOST_BYTES: usize = 65536;
 
-const MOST_PLACES: usize = 8192;
+pub const MOST_PLACES: usize = 8192;
 
 const HEADER_BYTES: usize = 64;
 

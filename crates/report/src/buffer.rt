@@ -5,7 +5,7 @@ ghost use Rattle.std.specs.Prelude.{◌≡◌, replicate};
 pub(crate) const WIDEST: usize = 1024;
 
 // The most places of a table.
-pub(crate) const PLACES: usize = 8192;
+pub(crate) const PLACES: usize = card::MOST_PLACES;
 
 // So many of one value.
 pub(crate) fn filled<T: Copy, const N: usize>(x: T) -> [T; N]
