@@ -178,6 +178,10 @@ fn tabled(section: &Section, form: Form) -> Vec<Place> {
 }
 
 fn places(section: &Section) -> Vec<Place> {
+    // A relocation table holds addresses, which the linker lays, and no number of the program.
+    if section.name.starts_with(".rela") {
+        return Vec::new();
+    }
     let mut places = doubles(section, &Number::all(Form::Double));
     if section.data() {
         places.extend(IN_TABLES.iter().flat_map(|&form| tabled(section, form)));
