@@ -2,7 +2,7 @@
 // part all the same, up to the last offset that there is.
 #![tactic(auto)]
 
-ghost use Rattle.std.specs.Prelude.{◌≡◌, ◌<◌, ◌≤◌, ◌^◌, true, [], ◌∷◌, ◌++◌};
+ghost use Rattle.std.specs.Prelude.{◌≡◌, ◌/◌, ◌%◌, ◌<◌, ◌≤◌, ◌^◌, true, [], ◌∷◌, ◌++◌};
 ghost use Rattle.std.specs.Float.Ieee.{to_unsigned};
 ghost use Rattle.std.specs.Option.{SomeIff};
 ghost use Rattle.digits.specs.Digits.{decimal, hex_digit, hex_digits, is_count, shown, newline, bits_word};
@@ -27,6 +27,18 @@ fn digit(d: u64) -> u8
     ensures { result ≡ hex_digit d }
 {
     if d < 10 { 48 + d as u8 } else { 55 + d as u8 }
+}
+
+// The number that n's digits before the last make, and the last. Ten is spelled out: a division by a known number is
+// a multiplication, and most of what is printed is decimal.
+fn cut(base: u64, n: u64) -> (u64, u64)
+    requires { 1 < base }
+    ensures { (result.0 ≡ n / base) × (result.1 ≡ n % base) × (result.1 < base) }
+{
+    if base == 10 {
+        return (n / 10, n % 10);
+    }
+    (n / base, n % base)
 }
 
 // Whole in 0 to 2^53.
@@ -94,8 +106,9 @@ impl<'a> Page<'a> {
             self.put_byte(digit(n));
             return;
         }
-        self.put_digits(base, least.saturating_sub(1), n / base);
-        self.put_byte(digit(n % base));
+        let (before, last) = cut(base, n);
+        self.put_digits(base, least.saturating_sub(1), before);
+        self.put_byte(digit(last));
     }
 
     // A number and a byte after it.

@@ -23,7 +23,7 @@ put_digits-requires t c =
 pub returns-clause-decimal : goal.returns-clause-decimal
 returns-clause-decimal t c e h =
     let several = more (goal.at.returns-clause-decimal t c).After-saturating_sub in
-    rw (decimal_last c.args.n c.args.base c.args.least e several h, ← c.digit-2.ensures)
+    rw (decimal_last c.args.n c.args.base c.args.least e several h, ← c.cut-before.ensures.0, ← c.cut-before.ensures.1, ← c.digit-2.ensures)
     (lays_then (c.put_digits.ensures.decimal e (omega arith)) c.put_byte-2.ensures)
 
 pub returns-clause-hex : goal.returns-clause-hex
@@ -31,5 +31,5 @@ returns-clause-hex t c e p h =
     let several = more (goal.at.returns-clause-hex t c).After-saturating_sub in
     let before = hex_before c.args.least c.args.n c.args.base e h several p in
     let laid = rw c.saturating_sub.ensures at (c.put_digits.ensures.hex e) in
-    rw (hex_last c.args.least c.args.n c.args.base e p, ← c.digit-2.ensures)
-    (lays_then (laid before.0 before.1) c.put_byte-2.ensures)
+    rw (hex_last c.args.least c.args.n c.args.base e p, ← c.cut-before.ensures.0, ← c.cut-before.ensures.1, ← c.digit-2.ensures)
+    (lays_then (laid before.0 (rw c.cut-before.ensures.0 before.1)) c.put_byte-2.ensures)
