@@ -53,6 +53,7 @@ impl TryFrom<u64> for Call {
 }
 
 // The answer is put in the line. A call of no known number gives no number.
+// (d) Words and line stay two arguments, here and in the groups: the one is read, and the other written.
 pub fn answer(n: u64, words: Words<'_>, out: &mut Line<'_>) {
     match Call::try_from(n) {
         Ok(Call::Number(call)) => out.put_all(&call.answer(words)),
