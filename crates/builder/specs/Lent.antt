@@ -4,9 +4,11 @@ use Rattle.std.specs.Borrow.{MutBor, Bor}
 use Rattle.builder.specs.declared.Lent.{Lent}
 use Rattle.builder.specs.Build.{Buffers, buffers}
 
+-- document 01, 'Builder': the buffers that a start and a row write
 abbrev pub buffers_lent : Lent (MutBor (List Float)) → Buffers
 buffers_lent lent = buffers lent.acc.now lent.corr.now lent.coarse.now lent.table.now
 
+-- the same buffers, as a finish reads them
 abbrev pub buffers_shown : Lent (Bor (List Float)) → Buffers
 buffers_shown lent = buffers lent.acc.now lent.corr.now lent.coarse.now lent.table.now
 
