@@ -14,7 +14,7 @@ fn fail(rt: &impl Eprint, what: &str, e: io::Error) -> ExitCode {
 }
 
 fn main(rt: HostRuntime) -> ExitCode {
-    let mut bytes = [0; CARD_SPACE];
+    let mut bytes: [u8; CARD_SPACE] = [0; CARD_SPACE];
     let mut text = [0; TEXT_SPACE];
     let read = match input::read_full(&mut rt.stdin(), &mut bytes) {
         Ok(read) => read,
