@@ -37,7 +37,8 @@ fn decimated<'a>(acc: &'a [f64], coarse: &'a [f64], factor: usize, n: usize) -> 
     &coarse[..n]
 }
 
-// Cells that stand one behind another, from a place on. By `copy_from_slice` an archive for C would need memmove from outside.
+// Cells that stand one behind another, from a place on.
+// (a) No `copy_from_slice`: with it an archive for C needs memmove from outside.
 fn store(dst: &mut [f64], at: usize, cells: &[f64])
     requires { at + length cells.now ≤ length dst.old }
     ensures { dst.new ≡ stored dst.old at cells.now 0 (length cells.now) }
