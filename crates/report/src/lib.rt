@@ -7,6 +7,7 @@ mod circles;
 mod lines;
 mod run;
 
+pub use buffer::card_buffer;
 pub use run::answer;
 
 // A byte more than a card may have is enough to see that it is too long.
