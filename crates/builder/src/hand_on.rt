@@ -38,12 +38,14 @@ fn decimated<'a>(acc: &'a [f64], coarse: &'a [f64], factor: usize, n: usize) -> 
 }
 
 // Cells that stand one behind another, from a place on.
-#[tactic(auto, using(crate::proofs::Laid::stored_whole))]
+// (a) No `copy_from_slice`: with it an archive for C needs memmove from outside.
 fn store(dst: &mut [f64], at: usize, cells: &[f64])
     requires { at + length cells.now ≤ length dst.old }
     ensures { dst.new ≡ stored dst.old at cells.now 0 (length cells.now) }
 {
-    dst[at..at + cells.len()].copy_from_slice(cells);
+    for (i, cell) in cells.iter().enumerate() {
+        dst[at + i] = *cell;
+    }
 }
 
 // A table row stands in runs of 8, 64 places apart, of which the last may be cut short.

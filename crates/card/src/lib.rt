@@ -10,7 +10,7 @@ ghost use Rattle.card.specs.Card.{read_header, circle_at};
 ghost use Rattle.card.specs.private.Accepted.{Accepted};
 
 use decimation::Decimation;
-pub use read::{MOST_PLACES, read_header};
+pub use read::{MOST_BYTES, MOST_PLACES, read_header};
 use refusal::Refusal;
 pub use words::{circle_at, u32_at};
 

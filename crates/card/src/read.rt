@@ -14,7 +14,7 @@ use refusal::{Refusal, refuse_if};
 use sections::{ByteRange, check_sections};
 
 // The most bytes of a card, and the most places of its source table.
-const MOST_BYTES: usize = 65536;
+pub const MOST_BYTES: usize = 65536;
 
 pub const MOST_PLACES: usize = 8192;
 

@@ -2,7 +2,7 @@
 // What could not be read or written is said on standard error, and then the exit status is 1.
 #![tactic(auto)]
 
-use report::{CARD_SPACE, TEXT_SPACE};
+use report::TEXT_SPACE;
 use std::io;
 use std::io::Write;
 use std::process::ExitCode;
@@ -14,7 +14,7 @@ fn fail(rt: &impl Eprint, what: &str, e: io::Error) -> ExitCode {
 }
 
 fn main(rt: HostRuntime) -> ExitCode {
-    let mut bytes = [0; CARD_SPACE];
+    let mut bytes = report::card_buffer();
     let mut text = [0; TEXT_SPACE];
     let read = match input::read_full(&mut rt.stdin(), &mut bytes) {
         Ok(read) => read,

@@ -6,7 +6,7 @@ ghost use Rattle.std.specs.Prelude.{◌≡◌, ◌/◌, ◌%◌, ◌<◌, ◌≤
 ghost use Rattle.std.specs.Float.Ieee.{to_unsigned};
 ghost use Rattle.std.specs.Option.{SomeIff};
 ghost use Rattle.digits.specs.Digits.{decimal, hex_digit, hex_digits, is_count, shown, newline, bits_word};
-ghost use Rattle.digits.specs.Laid.{Begins, Lays};
+ghost use Rattle.digits.specs.Laid.{Begins, Laid, Lays};
 
 pub const SPACE: u8 = b' ';
 
@@ -29,14 +29,17 @@ fn digit(d: u64) -> u8
     if d < 10 { 48 + d as u8 } else { 55 + d as u8 }
 }
 
-// The number that n's digits before the last make, and the last. Ten is spelled out: a division by a known number is
-// a multiplication, and most of what is printed is decimal.
+// The number that n's digits before the last make, and the last. Ten and sixteen are spelled out: a division by a known
+// number is a multiplication or a shift.
 fn cut(base: u64, n: u64) -> (u64, u64)
     requires { 1 < base }
     ensures { (result.0 ≡ n / base) × (result.1 ≡ n % base) × (result.1 < base) }
 {
     if base == 10 {
         return (n / 10, n % 10);
+    }
+    if base == 16 {
+        return (n / 16, n % 16);
     }
     (n / base, n % base)
 }
@@ -61,6 +64,44 @@ fn as_count(x: f64) -> Option<u64>
     }
 }
 
+// A byte at an offset; the answer is the offset behind it.
+// (b) Here and below a slice and an offset, and not a page: both would be read and written again for each byte, and a card of
+// refused circles took 1.4 times as long.
+// (c) No `get_mut`: after a write through what it lends of a slice, a proof knows how long the slice is, and not what it holds.
+fn lay_byte(out: &mut [u8], at: usize, b: u8) -> usize
+    ensures { Laid out.old at (b ∷ []) out.new result }
+{
+    if at < out.len() {
+        out[at] = b;
+    }
+    at.saturating_add(1)
+}
+
+fn lay_bytes(out: &mut [u8], at: usize, text: &[u8]) -> usize
+    ensures { Laid out.old at text.now out.new result }
+{
+    let mut next = at;
+    for b in text {
+        next = lay_byte(out, next, *b);
+    }
+    next
+}
+
+// The digits of n, the most significant first: at least so many, so `0` is in front of another only where n has fewer.
+// (c) The base, only ever 10 or 16, is no const parameter: with one, rattle counts no proof that the inner call has fewer digits to lay.
+fn lay_digits(out: &mut [u8], at: usize, base: u64, least: usize, n: u64) -> usize
+    requires { (1 < base) × (base ≤ 16) }
+    ensures decimal { base ≡ 10 → least ≤ 1 → Laid out.old at (decimal n) out.new result }
+    ensures hex { base ≡ 16 → 0 < least → n < 16 ^ least → Laid out.old at (hex_digits least n) out.new result }
+{
+    if (n < base) & (least < 2) {
+        return lay_byte(out, at, digit(n));
+    }
+    let (before, last) = cut(base, n);
+    let next = lay_digits(out, at, base, least.saturating_sub(1), before);
+    lay_byte(out, next, digit(last))
+}
+
 impl<'a> Page<'a> {
     // A slice from an offset on.
     pub fn new(out: &'a mut [u8], at: usize) -> Page<'a>
@@ -76,56 +117,30 @@ impl<'a> Page<'a> {
         self.at
     }
 
-    // (c) No `get_mut`: after a write through what it lends of a slice, a proof knows how long the slice is, and not what it holds.
-    fn put_byte(&mut self, b: u8)
-        ensures { Lays self.old (b ∷ []) self.new }
-    {
-        let Page { out, at } = self;
-        if *at < out.len() {
-            out[*at] = b;
-        }
-        *at = at.saturating_add(1);
-    }
-
     pub fn put_bytes(&mut self, text: &[u8])
         ensures { Lays self.old text.now self.new }
     {
-        for b in text {
-            self.put_byte(*b);
-        }
-    }
-
-    // The digits of n, the most significant first: at least so many, so `0` is in front of another only where n has fewer.
-    // (c) The base, only ever 10 or 16, is no const parameter: with one, rattle counts no proof that the inner call has fewer digits to lay.
-    fn put_digits(&mut self, base: u64, least: usize, n: u64)
-        requires { (1 < base) × (base ≤ 16) }
-        ensures decimal { base ≡ 10 → least ≤ 1 → Lays self.old (decimal n) self.new }
-        ensures hex { base ≡ 16 → 0 < least → n < 16 ^ least → Lays self.old (hex_digits least n) self.new }
-    {
-        if (n < base) & (least < 2) {
-            self.put_byte(digit(n));
-            return;
-        }
-        let (before, last) = cut(base, n);
-        self.put_digits(base, least.saturating_sub(1), before);
-        self.put_byte(digit(last));
+        let Page { out, at } = self;
+        *at = lay_bytes(out, *at, text);
     }
 
     // A number and a byte after it.
     pub fn put_number(&mut self, n: u64, after: u8)
         ensures { Lays self.old (decimal n ++ (after ∷ [])) self.new }
     {
-        self.put_digits(10, 1, n);
-        self.put_byte(after);
+        let Page { out, at } = self;
+        let next = lay_digits(out, *at, 10, 1, n);
+        *at = lay_byte(out, next, after);
     }
 
     // `bits` and 16 hex digits, and a newline.
     fn put_bits(&mut self, n: u64)
         ensures { Lays self.old ((bits_word ++ hex_digits 16 n) ++ newline) self.new }
     {
-        self.put_bytes(b"bits ");
-        self.put_digits(16, 16, n);
-        self.put_byte(NEWLINE);
+        let Page { out, at } = self;
+        let first = lay_bytes(out, *at, b"bits ");
+        let next = lay_digits(out, first, 16, 16, n);
+        *at = lay_byte(out, next, NEWLINE);
     }
 
     // A count in decimal, every other number by its bits; and a newline.

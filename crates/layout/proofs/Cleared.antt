@@ -5,7 +5,7 @@ use mathlib.Core.List.{List}
 use Prim.Native.Nat.{ℕ, suc, ◌+◌, ◌*◌, ◌≤◌, ◌<◌}
 use native.Mathlib.Numerals.{add-one}
 use native.Mathlib.Omega.{arith}
-use borrow.Author.Tests.{eqb-true, leb-true, leb-false, le-leb, lt-leb, lt-ltb, le-ltb}
+use borrow.Author.Tests.{eqb-true, leb-true, leb-false, le-leb, lt-leb, lt-ltb, le-ltb, ltb-false}
 use Rattle.std.specs.Int.{div_ceil}
 use lib.Dec.{eqb, leb, ltb}
 use lib.ListN.{length, set}
@@ -15,7 +15,7 @@ use Rattle.layout.specs.Place.{blocks_over, cell_at, corner, is_cell, in_blocks}
 use Rattle.layout.specs.Written.{cleared_table}
 use Rattle.layout.specs.private.Cleared.{first_cleared, cleared_from}
 use Rattle.layout.proofs.Entries.{below_suc}
-use Rattle.layout.proofs.Places.{line_inside, row_reached}
+use Rattle.layout.proofs.Places.{line_inside, cells_in_order, row_reached}
 use Rattle.layout.proofs.Blocks.{length_blocks, corner_blocks, blocks_are, blocks_same, set_blocks}
 
 -- ---- a row, cell by cell
@@ -100,12 +100,24 @@ module _ (w h : ℕ) (t : List Float) where
       rw (length_blocks w (length t) _, add-one n)
       (blocks_same w (length t) _ _ (λ r c k l. rw (corner_blocks w (length t) _ r c k l) (row_more n r c _ refl (corner w t r c))))
 
-  pub rows_end : (rows n b : ℕ) → rows ≡ n * 8 → b ≡ blocks_over w → n ≡ div_ceil (length t) (b * 64) → rows_cleared rows ≡ cleared_table w h t
+  either : (b : Bool) (x y : Float) → cond (not b) x y ≡ cond b y x
+  either true x y = refl
+  either false x y = refl
+
+  pub rows_end : (n : ℕ) → length t ≤ cell_at w n 0 → rows_cleared n ≡ cleared_table w h t
   unfolding cleared_table
-  rows_end rows n b er eb e =
+  rows_end n l = blocks_same w (length t) _ _ (λ r c k i. rw (before r c i) (either (leb 1 r && is_cell w h r c) f64zero (corner w t r c)))
+    where
+      before : (r c : ℕ) → cell_at w r c < length t → ltb r n ≡ true
+      before r c i = go (ltb r n) refl
+        where
+          go : (b : Bool) → ltb r n ≡ b → ltb r n ≡ true
+          go true e = e
+          go false e = absurd (omega (arith, cells_in_order w n r 0 c (ltb-false r n e) (omega arith)))
+
+  -- the rows of so many whole rows of blocks are all that there are
+  pub rows_whole : (rows n b : ℕ) → rows ≡ n * 8 → b ≡ blocks_over w → n ≡ div_ceil (length t) (b * 64) → rows_cleared rows ≡ cleared_table w h t
+  unfolding cleared_table
+  rows_whole rows n b er eb e =
       blocks_same w (length t) _ _
       (λ r c k i. rw (lt-ltb r rows (rw er (row_reached w (length t) n b eb e r c i))) (either (leb 1 r && is_cell w h r c) f64zero (corner w t r c)))
-    where
-      either : (b : Bool) (x y : Float) → cond (not b) x y ≡ cond b y x
-      either true x y = refl
-      either false x y = refl

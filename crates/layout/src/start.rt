@@ -43,7 +43,7 @@ fn first_cleared(grid: Grid, row: usize) -> usize
 
 // Table row 0 is zeros, so that a rectangle at the north edge subtracts four corners like any other. The table's other cells
 // are left.
-#[tactic(auto, using(crate::proofs::Places::some_block, crate::proofs::Places::few_blocks, crate::proofs::Places::few_held, crate::proofs::Places::row_near, crate::proofs::Cleared::first_within, crate::proofs::Cleared::rows_start, crate::proofs::Cleared::rows_turn, crate::proofs::Cleared::rows_end))]
+#[tactic(auto, using(crate::proofs::Places::some_block, crate::proofs::Places::few_blocks, crate::proofs::Places::few_held, crate::proofs::Places::row_near, crate::proofs::Cleared::first_within, crate::proofs::Cleared::rows_start, crate::proofs::Cleared::rows_turn, crate::proofs::Cleared::rows_whole))]
 pub fn clear_edges(grid: Grid, table: &mut [f64])
     ensures { table.new ≡ cleared_table grid.width grid.height table.old }
 {

@@ -30,7 +30,7 @@ fn one_card<R: Files + Print + Eprint>(
 }
 
 fn main(rt: HostRuntime) -> io::Result<()> {
-    let mut bytes = [0; CARD_SPACE];
+    let mut bytes = report::card_buffer();
     let mut text = [0; TEXT_SPACE];
     for i in 0..CARDS {
         one_card(&rt, i, &mut bytes, &mut text)?;

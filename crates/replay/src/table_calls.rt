@@ -17,13 +17,10 @@ pub enum ExtentCall {
 
 impl ExtentCall {
     pub fn answer(self, words: Words<'_>) -> Result<Answer, Refusal> {
-        let table = Table {
-            grid: words.grid(0),
-            cells: &[],
-        };
+        let grid = words.grid(0);
         let (rows, cols) = match self {
-            ExtentCall::Whole => table.whole()?,
-            ExtentCall::Covering => table.covering(window(words.from(6)))?,
+            ExtentCall::Whole => table::whole(grid)?,
+            ExtentCall::Covering => table::covering(grid, window(words.from(6)))?,
         };
         let north = rows.north.0 as u64;
         let south = rows.south.0 as u64;

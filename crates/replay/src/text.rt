@@ -20,7 +20,8 @@ pub fn read<'a>(input: &mut impl Read, text: &'a mut [u8], n: u32) -> Option<Wor
 
 // The word at the front of the text.
 pub fn value(text: &[u8]) -> u64 {
-    text.iter().take(16).fold(0, |word, byte| {
+    let digits = text.get(..16).unwrap_or(text);
+    digits.iter().fold(0, |word, byte| {
         (word % 0x1000_0000_0000_0000 * 16) | digit(*byte)
     })
 }

@@ -100,8 +100,8 @@ impl<'a> Words<'a> {
     // The words as elements, in the front of the space that is lent.
     pub fn load<'b, T: Word>(self, space: &'b mut [T]) -> &'b mut [T] {
         let n = self.len().min(space.len());
-        for (i, x) in space.iter_mut().take(n).enumerate() {
-            *x = self.at(i);
+        for (x, word) in space.iter_mut().zip(self.0.chunks_exact(UNIT)) {
+            *x = T::of(value(word));
         }
         &mut space[..n]
     }

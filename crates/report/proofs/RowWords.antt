@@ -11,16 +11,20 @@ use Rattle.card.specs.Words.{u32_at, words_at}
 use Rattle.card.specs.declared.Header.{Header}
 use Rattle.card.specs.private.Accepted.{Accepted}
 
--- one more word is written: those so far and those to come are still the n from `at` on
-pub words_turn : (card row : List ℕ) (at i n v : ℕ) → i < length row → i < n → v ≡ u32_at card (at + 4 * i)
+-- one more word is written
+pub words_turn : (card row : List ℕ) (at i n v : ℕ) → i < length row → v ≡ u32_at card (at + 4 * i)
+    → take (i + 1) (set row i v) ++ words_at card (at + 4 * (i + 1)) n ≡ take i row ++ words_at card (at + 4 * i) (suc n)
+words_turn card row at i n v h e =
+    let s : at + 4 * (i + 1) ≡ at + 4 * i + 4 = omega arith in
+    rw (e, s, add-one, take-suc-set row i, append_snoc)
+
+-- those so far and those to come are still the n from `at` on
+pub words_whole : (card row : List ℕ) (at i n v : ℕ) → i < length row → i < n → v ≡ u32_at card (at + 4 * i)
     → take i row ++ words_at card (at + 4 * i) (n - i) ≡ words_at card at n
     → take (i + 1) (set row i v) ++ words_at card (at + 4 * (i + 1)) (n - (i + 1)) ≡ words_at card at n
-words_turn card row at i n v h l e before =
-    let s : at + 4 * (i + 1) ≡ at + 4 * i + 4 = omega arith in
+words_whole card row at i n v h l e before =
     let left : n - i ≡ suc (n - (i + 1)) = omega arith in
-    let turned : take (i + 1) (set row i v) ++ words_at card (at + 4 * (i + 1)) (n - (i + 1)) ≡ take i row ++ words_at card (at + 4 * i) (suc (n - (i + 1))) =
-    rw (e, s, add-one, take-suc-set row i, append_snoc) in
-    turned ∙ rw left at before
+    words_turn card row at i (n - (i + 1)) v h e ∙ rw left at before
 
 -- a row of n words lies within the card
 pub row_inside : {card : List ℕ} {h : Header} (i n : ℕ) → Accepted card h → i < h.decimation.source.height → n ≡ h.decimation.source.width

@@ -11,7 +11,7 @@ use card::{AcceptedCard, u32_at};
 use refusal::Refusal;
 
 // Row i of the card fills `row`.
-#[tactic(auto, using(crate::proofs::RowWords::row_inside, crate::proofs::RowWords::words_turn), unfolding(card::specs::Card::row_at))]
+#[tactic(auto, using(crate::proofs::RowWords::row_inside, crate::proofs::RowWords::words_whole), unfolding(card::specs::Card::row_at))]
 fn read_row(card: AcceptedCard, i: u32, row: &mut [u32])
     requires inside { i < card.header.decimation.source.height }
     requires wide { length row.old ≡ card.header.decimation.source.width }

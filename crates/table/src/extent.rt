@@ -27,27 +27,38 @@ fn with_columns(grid: Grid, window: Window, rows: RowBand) -> Result<(RowBand, C
     Ok((rows, ColSpan::Through { west, east }))
 }
 
+// Every row and every column. No window of 90 to −90: a grid's south edge is in no cell.
+#[tactic(auto, using(refusal::proofs::Chains::refused_as, grid::proofs::Valid::grid_sized), unfolding(crate::specs::Extent::whole_extent))]
+pub fn whole(grid: Grid) -> Result<(RowBand, ColSpan), Refusal>
+    ensures { outcome_of result ≡ whole_extent grid }
+{
+    refuse_if(!grid.is_valid(), Refusal::NotItsMakers)?;
+    let rows = RowBand::new(Row(0), Row(grid.height - 1));
+    Ok((rows, ColSpan::FullTurn))
+}
+
+// The rows and columns of a window. A latitude alone has no cell, so each edge's is looked up at the grid's own
+// longitude, which every grid has.
+#[tactic(auto, unfolding(crate::specs::Extent::covering))]
+pub fn covering(grid: Grid, window: Window) -> Result<(RowBand, ColSpan), Refusal>
+    ensures { outcome_of result ≡ covering_of grid window }
+{
+    let (north, _) = cell(grid, window.north, grid.lon)?;
+    let (south, _) = cell(grid, window.south, grid.lon)?;
+    with_columns(grid, window, RowBand::new(north, south))
+}
+
+// The same of a table's grid.
 impl<'a> Table<'a> {
-    // Every row and every column. No window of 90 to −90: a grid's south edge is in no cell.
-    #[tactic(auto, using(refusal::proofs::Chains::refused_as, grid::proofs::Valid::grid_sized), unfolding(crate::specs::Extent::whole_extent))]
     pub fn whole(self) -> Result<(RowBand, ColSpan), Refusal>
         ensures { outcome_of result ≡ whole_extent self.entry.grid }
     {
-        let grid = self.grid;
-        refuse_if(!grid.is_valid(), Refusal::NotItsMakers)?;
-        let rows = RowBand::new(Row(0), Row(grid.height - 1));
-        Ok((rows, ColSpan::FullTurn))
+        whole(self.grid)
     }
 
-    // The rows and columns of a window. A latitude alone has no cell, so each edge's is looked up at the grid's own
-    // longitude, which every grid has.
-    #[tactic(auto, unfolding(crate::specs::Extent::covering))]
     pub fn covering(self, window: Window) -> Result<(RowBand, ColSpan), Refusal>
         ensures { outcome_of result ≡ covering_of self.entry.grid window }
     {
-        let grid = self.grid;
-        let (north, _) = cell(grid, window.north, grid.lon)?;
-        let (south, _) = cell(grid, window.south, grid.lon)?;
-        with_columns(grid, window, RowBand::new(north, south))
+        covering(self.grid, window)
     }
 }
