@@ -18,7 +18,8 @@ pub(crate) fn filled<T: Copy, const N: usize>(x: T) -> [T; N]
 
 // Space for a card's bytes.
 pub fn card_buffer() -> [u8; CARD_SPACE]
-    ensures { 65537 ≡ length result }
+    ensures size { 65537 ≡ length result }
+    ensures zeros { result ≡ replicate 65537 0 }
 {
-    [0; CARD_SPACE]
+    filled(0)
 }
